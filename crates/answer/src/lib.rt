@@ -1,0 +1,48 @@
+// The answers of document 01, 'One turn and its answer'.
+ghost use mathlib.Core.Path.{_≡_};
+ghost use Rattle.answer.specs.Answer.{numberOf};
+
+pub enum Answer {
+    Finished,
+    Paused,
+    Illegal,
+    LoadMisaligned,
+    LoadAccess,
+    StoreMisaligned,
+    StoreAccess,
+    BadRegisters,
+    BadScalars,
+    BadMemory,
+    BadRights,
+    BadControl,
+    TwoPages,
+    NoGroup,
+}
+
+// What a test comes to: nothing against it, or the answer that refuses.
+pub enum Verdict {
+    Accepted,
+    Refused(Answer),
+}
+
+// The answer's number in document 01.
+pub fn number(answer: Answer) -> u64
+    ensures { λ r. ⌜ r ≡ numberOf answer ⌝ }
+{
+    match answer {
+        Answer::Finished => 0,
+        Answer::Paused => 1,
+        Answer::Illegal => 2,
+        Answer::LoadMisaligned => 4,
+        Answer::LoadAccess => 5,
+        Answer::StoreMisaligned => 6,
+        Answer::StoreAccess => 7,
+        Answer::BadRegisters => 32,
+        Answer::BadScalars => 33,
+        Answer::BadMemory => 34,
+        Answer::BadRights => 35,
+        Answer::BadControl => 36,
+        Answer::TwoPages => 37,
+        Answer::NoGroup => 38,
+    }
+}

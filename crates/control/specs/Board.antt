@@ -1,0 +1,13 @@
+-- A board: VLENB, the bytes of a vector register, and ELEN, the bits of the largest element (section 3 of document 000).
+use Prim.Native.Nat.{ℕ, _≤_}
+use Rattle.control.specs.declared.Board.{Board}
+
+-- VLEN 128, ELEN 64 (document 01, 'The machine on the screen')
+abbrev pub base : Board
+base = record { vlenb = 16; elen = 64 }
+
+-- the boards that the definitions are for
+pub record Valid (b : Board) : Type 0 where
+  pub some : 1 ≤ b .vlenb
+  pub most : b .vlenb ≤ 16
+  pub elen : b .elen ≤ 64

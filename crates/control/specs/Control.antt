@@ -1,0 +1,38 @@
+-- The control record: reset, the record after a setting instruction (document 01, 'Setting the vector type'), and which records can be.
+use Prim.Native.Nat.{ℕ, _*_, min}
+use mathlib.Core.Bool.{Bool, not, _&&_, cond}
+use lib.Dec.{ltb, leb, eqb}
+use Rattle.control.specs.declared.Board.{Board}
+use Rattle.control.specs.declared.Control.{Control}
+use Rattle.control.specs.declared.Avl.{Avl}
+use Rattle.control.specs.declared.Avl.the-variants.{To, Keep}
+use Rattle.control.specs.Vtype.{vill, vlmaxOf, supportedOf}
+
+-- section 4.11; document 01: vtype is 2^63 (vill), all others 0
+abbrev pub reset : Control
+reset = record { vtype = vill; vl = 0; vstart = 0; vxrm = 0; vxsat = 0 }
+
+-- a setting instruction leaves vstart 0; vxrm and vxsat stay
+abbrev pub typedOf : Control → ℕ → ℕ → Control
+typedOf c v vl = record { vtype = v; vl = vl; vstart = 0; vxrm = c .vxrm; vxsat = c .vxsat }
+
+-- "sets vtype to 2^63 and vl to 0"
+abbrev pub villOf : Control → Control
+villOf c = typedOf c vill 0
+
+-- "vl is kept if vill was clear and VLMAX stays"
+abbrev pub keepsOf : Board → Control → ℕ → Bool
+keepsOf b c v = not (eqb (c .vtype) vill) && eqb (vlmaxOf b (c .vtype)) (vlmaxOf b v)
+
+-- the record after a setting instruction with the new vtype v (section 7); vl becomes the smaller of AVL and VLMAX
+unfoldable pub setOf : Board → Control → ℕ → Avl → Control
+setOf b c v (To avl) = cond (supportedOf b v) (typedOf c v (min avl (vlmaxOf b v))) (villOf c)
+setOf b c v Keep = cond (supportedOf b v && keepsOf b c v) (typedOf c v (c .vl)) (villOf c)
+
+-- vtype is 2^63 with vl 0, or supported with vl at most VLMAX
+unfoldable pub typedWellOf : Board → Control → Bool
+typedWellOf b c = cond (eqb (c .vtype) vill) (eqb (c .vl) 0) (supportedOf b (c .vtype) && leb (c .vl) (vlmaxOf b (c .vtype)))
+
+-- answer 36 where this is false: vstart has the bits of 0 .. VLEN - 1, vxrm 0 .. 3, vxsat 0 .. 1
+unfoldable pub possibleOf : Board → Control → Bool
+possibleOf b c = typedWellOf b c && (ltb (c .vstart) (8 * b .vlenb) && (leb (c .vxrm) 3 && leb (c .vxsat) 1))

@@ -1,0 +1,181 @@
+// The control record (vtype, vl, vstart, vxrm, vxsat), and the board whose numbers its rules use.
+ghost use mathlib.Core.Path.{_≡_};
+ghost use mathlib.Core.Bool.{cond};
+ghost use Prim.Native.Nat.{min};
+ghost use Rattle.control.specs.Board.{Valid, base};
+ghost use Rattle.control.specs.Vtype.{lmul8Of, sewOf, vlmaxOf, supportedOf};
+ghost use Rattle.control.specs.Control.{reset, villOf, typedOf, keepsOf, setOf, typedWellOf, possibleOf};
+
+// VLENB (the bytes of a vector register) and ELEN (the bits of the largest element).
+pub struct Board {
+    pub vlenb: u64,
+    pub elen: u64,
+}
+
+impl Board {
+    // VLEN 128, ELEN 64.
+    pub const BASE: Board = Board {
+        vlenb: 16,
+        elen: 64,
+    };
+
+    pub fn base() -> Board
+        ensures { λ r. ⌜ r ≡ base ⌝ }
+    {
+        Board::BASE
+    }
+}
+
+pub struct Control {
+    pub vtype: u64,
+    pub vl: u64,
+    pub vstart: u64,
+    pub vxrm: u64,
+    pub vxsat: u64,
+}
+
+// What a setting instruction asks of vl: an application vector length, or to keep vl.
+pub enum Avl {
+    To(u64),
+    Keep,
+}
+
+// vill alone.
+const VILL: u64 = 0x8000_0000_0000_0000;
+
+// 8 * LMUL by vlmul; 0 at the reserved 100.
+const LMUL8: [u64; 8] = [8, 16, 32, 64, 0, 1, 2, 4];
+
+// SEW by vsew.
+const SEW: [u64; 8] = [8, 16, 32, 64, 128, 256, 512, 1024];
+
+fn smaller(a: u64, b: u64) -> u64
+    ensures { λ r. ⌜ r ≡ min a b ⌝ }
+{
+    if a < b { a } else { b }
+}
+
+impl Control {
+    pub const RESET: Control = Control {
+        vtype: 0x8000_0000_0000_0000,
+        vl: 0,
+        vstart: 0,
+        vxrm: 0,
+        vxsat: 0,
+    };
+
+    pub fn reset() -> Control
+        ensures { λ r. ⌜ r ≡ reset ⌝ }
+    {
+        Control::RESET
+    }
+
+    pub fn lmul8(vtype: u64) -> u64
+        ensures { λ r. ⌜ r ≡ lmul8Of vtype ⌝ }
+    {
+        LMUL8[(vtype % 8) as usize]
+    }
+
+    pub fn sew(vtype: u64) -> u64
+        ensures { λ r. ⌜ r ≡ sewOf vtype ⌝ }
+    {
+        SEW[(vtype / 8 % 8) as usize]
+    }
+
+    pub fn vlmax(board: Board, vtype: u64) -> u64
+        requires { ⌜ Valid board ⌝ }
+        ensures { λ r. ⌜ r ≡ vlmaxOf board vtype ⌝ }
+    {
+        Control::lmul8(vtype) * board.vlenb / Control::sew(vtype)
+    }
+
+    // `&` and `|` take both sides, as the definitions do: there is no branch.
+    pub fn supported(board: Board, vtype: u64) -> bool
+        requires { ⌜ Valid board ⌝ }
+        ensures { λ r. ⌜ r ≡ supportedOf board vtype ⌝ }
+    {
+        let sew = Control::sew(vtype);
+        let lmul8 = Control::lmul8(vtype);
+        (vtype < 256)
+            & (sew <= board.elen)
+            & (vtype % 8 != 4)
+            & ((8 <= lmul8) | (8 * sew <= board.elen * lmul8))
+    }
+
+    fn vill(self) -> Control
+        ensures { λ r. ⌜ r ≡ villOf self ⌝ }
+    {
+        Control {
+            vtype: VILL,
+            vl: 0,
+            vstart: 0,
+            vxrm: self.vxrm,
+            vxsat: self.vxsat,
+        }
+    }
+
+    fn typed(self, vtype: u64, vl: u64) -> Control
+        ensures { λ r. ⌜ r ≡ typedOf self vtype vl ⌝ }
+    {
+        Control {
+            vtype,
+            vl,
+            vstart: 0,
+            vxrm: self.vxrm,
+            vxsat: self.vxsat,
+        }
+    }
+
+    // The record at a new vtype and vl where that is allowed, otherwise at vill.
+    fn typed_if(self, allowed: bool, vtype: u64, vl: u64) -> Control
+        ensures { λ r. ⌜ r ≡ cond allowed (typedOf self vtype vl) (villOf self) ⌝ }
+    {
+        if allowed {
+            self.typed(vtype, vl)
+        } else {
+            self.vill()
+        }
+    }
+
+    // Whether vl may be kept at a new vtype.
+    fn keeps(self, board: Board, vtype: u64) -> bool
+        requires { ⌜ Valid board ⌝ }
+        ensures { λ r. ⌜ r ≡ keepsOf board self vtype ⌝ }
+    {
+        (self.vtype != VILL) & (Control::vlmax(board, self.vtype) == Control::vlmax(board, vtype))
+    }
+
+    // The record after a setting instruction.
+    pub fn set(self, board: Board, vtype: u64, avl: Avl) -> Control
+        requires { ⌜ Valid board ⌝ }
+        ensures { λ r. ⌜ r ≡ setOf board self vtype avl ⌝ }
+    {
+        let supported = Control::supported(board, vtype);
+        match avl {
+            Avl::To(n) => self.typed_if(supported, vtype, smaller(n, Control::vlmax(board, vtype))),
+            Avl::Keep => self.typed_if(supported & self.keeps(board, vtype), vtype, self.vl),
+        }
+    }
+
+    // Whether vtype and vl can stand together.
+    fn typed_well(self, board: Board) -> bool
+        requires { ⌜ Valid board ⌝ }
+        ensures { λ r. ⌜ r ≡ typedWellOf board self ⌝ }
+    {
+        if self.vtype == VILL {
+            return self.vl == 0;
+        }
+        Control::supported(board, self.vtype) & (self.vl <= Control::vlmax(board, self.vtype))
+    }
+
+    // Whether the fields can be: answer 36 where not.
+    pub fn possible(self, board: Board) -> bool
+        requires { ⌜ Valid board ⌝ }
+        ensures { λ r. ⌜ r ≡ possibleOf board self ⌝ }
+    {
+        self.typed_well(board)
+            & (self.vstart < 8 * board.vlenb)
+            & (self.vxrm <= 3)
+            & (self.vxsat <= 1)
+    }
+}

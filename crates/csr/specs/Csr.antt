@@ -1,0 +1,41 @@
+-- Document 01, 'Control panel': reads and writes by CSR number, in the order of its refusals.
+use Prim.Native.Nat.{ℕ, _+_, _*_, _/_, _%_}
+use mathlib.Core.Bool.{Bool, true, false, cond}
+use lib.Dec.{eqb}
+use Rattle.answer.specs.declared.Answer.the-variants.{Finished, Illegal, BadControl}
+use Rattle.control.specs.declared.Board.{Board}
+use Rattle.control.specs.declared.Control.{Control}
+use Rattle.control.specs.Control.{possibleOf}
+use Rattle.csr.specs.declared.CsrRead.{CsrRead}
+use Rattle.csr.specs.declared.CsrWrite.{CsrWrite}
+
+abbrev pub value : ℕ → CsrRead
+value x = record { answer = Finished; value = x }
+
+-- 36 comes first; an unknown number is 2; a refused read returns 0
+unfoldable pub readOf : Board → Control → ℕ → CsrRead
+readOf b c csr =
+    cond (possibleOf b c)
+    (cond (eqb csr 0x008) (value (c .vstart))
+    (cond (eqb csr 0x009) (value (c .vxsat))
+    (cond (eqb csr 0x00A) (value (c .vxrm))
+    (cond (eqb csr 0x00F) (value (2 * c .vxrm + c .vxsat))
+    (cond (eqb csr 0xC20) (value (c .vl))
+    (cond (eqb csr 0xC21) (value (c .vtype))
+    (cond (eqb csr 0xC22) (value (b .vlenb))
+    (record { answer = Illegal; value = 0 }))))))))
+    (record { answer = BadControl; value = 0 })
+
+abbrev pub changed : Control → CsrWrite
+changed c = record { answer = Finished; control = c }
+
+-- A write keeps the low bits: of vstart those of 0 .. VLEN - 1, of vxsat 1, of vxrm 2, of vcsr 3. A refused one changes none
+unfoldable pub writtenOf : Board → Control → ℕ → ℕ → CsrWrite
+writtenOf b c csr x =
+    cond (possibleOf b c)
+    (cond (eqb csr 0x008) (changed (record { vtype = c .vtype; vl = c .vl; vstart = x % (8 * b .vlenb); vxrm = c .vxrm; vxsat = c .vxsat }))
+    (cond (eqb csr 0x009) (changed (record { vtype = c .vtype; vl = c .vl; vstart = c .vstart; vxrm = c .vxrm; vxsat = x % 2 }))
+    (cond (eqb csr 0x00A) (changed (record { vtype = c .vtype; vl = c .vl; vstart = c .vstart; vxrm = x % 4; vxsat = c .vxsat }))
+    (cond (eqb csr 0x00F) (changed (record { vtype = c .vtype; vl = c .vl; vstart = c .vstart; vxrm = x / 2 % 4; vxsat = x % 2 }))
+    (record { answer = Illegal; control = c })))))
+    (record { answer = BadControl; control = c })

@@ -1,0 +1,118 @@
+// Reads and writes of the control record by CSR number (document 01, 'Control panel'): the record goes in and comes back by value.
+ghost use mathlib.Core.Path.{_≡_};
+ghost use Rattle.control.specs.Board.{Valid, base};
+ghost use Rattle.csr.specs.Csr.{readOf, writtenOf};
+use answer::Answer;
+use control::Board;
+use control::Control;
+
+// What a read comes to: 0 beside a refusal.
+pub struct CsrRead {
+    pub answer: Answer,
+    pub value: u64,
+}
+
+// What a write comes to: the record after it.
+pub struct CsrWrite {
+    pub answer: Answer,
+    pub control: Control,
+}
+
+// A read on a board.
+pub fn read_on(board: Board, control: Control, csr: u64) -> CsrRead
+    requires { ⌜ Valid board ⌝ }
+    ensures { λ r. ⌜ r ≡ readOf board control csr ⌝ }
+{
+    if !control.possible(board) {
+        return CsrRead {
+            answer: Answer::BadControl,
+            value: 0,
+        };
+    }
+    let answer = Answer::Finished;
+    match csr {
+        0x008 => CsrRead {
+            answer,
+            value: control.vstart,
+        },
+        0x009 => CsrRead {
+            answer,
+            value: control.vxsat,
+        },
+        0x00A => CsrRead {
+            answer,
+            value: control.vxrm,
+        },
+        0x00F => CsrRead {
+            answer,
+            value: 2 * control.vxrm + control.vxsat,
+        },
+        0xC20 => CsrRead {
+            answer,
+            value: control.vl,
+        },
+        0xC21 => CsrRead {
+            answer,
+            value: control.vtype,
+        },
+        0xC22 => CsrRead {
+            answer,
+            value: board.vlenb,
+        },
+        _ => CsrRead {
+            answer: Answer::Illegal,
+            value: 0,
+        },
+    }
+}
+
+// A write on a board.
+pub fn write_on(board: Board, control: Control, csr: u64, value: u64) -> CsrWrite
+    requires { ⌜ Valid board ⌝ }
+    ensures { λ r. ⌜ r ≡ writtenOf board control csr value ⌝ }
+{
+    let mut next = control;
+    if !control.possible(board) {
+        return CsrWrite {
+            answer: Answer::BadControl,
+            control: next,
+        };
+    }
+    match csr {
+        0x008 => {
+            next.vstart = value % (8 * board.vlenb);
+        }
+        0x009 => {
+            next.vxsat = value % 2;
+        }
+        0x00A => {
+            next.vxrm = value % 4;
+        }
+        0x00F => {
+            next.vxrm = value / 2 % 4;
+            next.vxsat = value % 2;
+        }
+        _ => {
+            return CsrWrite {
+                answer: Answer::Illegal,
+                control: next,
+            };
+        }
+    }
+    CsrWrite {
+        answer: Answer::Finished,
+        control: next,
+    }
+}
+
+pub fn read(control: Control, csr: u64) -> CsrRead
+    ensures { λ r. ⌜ r ≡ readOf base control csr ⌝ }
+{
+    read_on(Board::base(), control, csr)
+}
+
+pub fn write(control: Control, csr: u64, value: u64) -> CsrWrite
+    ensures { λ r. ⌜ r ≡ writtenOf base control csr value ⌝ }
+{
+    write_on(Board::base(), control, csr, value)
+}

@@ -1,0 +1,326 @@
+// The element operations of sections 12.1 to 12.9, 12.15 and 12.16 of document 000. `a` is the element of vs2, `b` that of vs1 (or the
+// scalar or immediate in its place), `c` the mask bit of v0.
+ghost use mathlib.Core.Path.{_≡_};
+ghost use Prim.Native.Nat.{_*_, _/_, _%_, _<_, _≤_, _^_};
+ghost use mathlib.Core.Bool.{cond};
+ghost use lib.Signed.{ltZ, shrZ};
+ghost use Rattle.number.specs.Width.{Width, signed, wrap, flag};
+ghost use Rattle.integer.specs.Integer.{vadd, vsub, vrsub, vwaddu, vwsubu, vwadd, vwsub, vwadd-w, vwsub-w, vzext, vsext, vadc, vmadc, vsbc, vmsbc, vand, vor, vxor, vsll, vsrl, vsra, vnsrl, vnsra, vmseq, vmsne, vmsltu, vmslt, vmsleu, vmsle, vmsgtu, vmsgt, vminu, vmin, vmaxu, vmax, vmerge, vmv};
+
+pub mod mask;
+
+// ---- 12.1
+
+pub fn add(sew: u64, a: u64, b: u64) -> u64
+    requires { ⌜ Width sew ⌝ }
+    ensures { λ r. ⌜ r ≡ vadd sew a b ⌝ }
+{
+    number::add(sew, a, b)
+}
+
+pub fn sub(sew: u64, a: u64, b: u64) -> u64
+    requires { ⌜ Width sew ⌝ }
+    ensures { λ r. ⌜ r ≡ vsub sew a b ⌝ }
+{
+    number::sub(sew, a, b)
+}
+
+pub fn rsub(sew: u64, a: u64, b: u64) -> u64
+    requires { ⌜ Width sew ⌝ }
+    ensures { λ r. ⌜ r ≡ vrsub sew a b ⌝ }
+{
+    number::sub(sew, b, a)
+}
+
+// ---- 12.2
+
+pub fn waddu(sew: u64, a: u64, b: u64) -> u64
+    requires { ⌜ Width (2 * sew) ⌝ }
+    ensures { λ r. ⌜ r ≡ vwaddu sew a b ⌝ }
+{
+    number::add(2 * sew, a, b)
+}
+
+pub fn wsubu(sew: u64, a: u64, b: u64) -> u64
+    requires { ⌜ Width (2 * sew) ⌝ }
+    ensures { λ r. ⌜ r ≡ vwsubu sew a b ⌝ }
+{
+    number::sub(2 * sew, a, b)
+}
+
+// The `from` bits of x sign-extended to `to` bits.
+pub fn extend(from: u64, to: u64, x: u64) -> u64
+    requires { ⌜ Width from × (Width to × (x < 2 ^ from)) ⌝ }
+    ensures { λ r. ⌜ r ≡ wrap to (signed from x) ⌝ }
+{
+    number::from_signed(to, number::to_signed(from, x))
+}
+
+pub fn wadd(sew: u64, a: u64, b: u64) -> u64
+    requires { ⌜ Width (2 * sew) × ((a < 2 ^ sew) × (b < 2 ^ sew)) ⌝ }
+    ensures { λ r. ⌜ r ≡ vwadd sew a b ⌝ }
+{
+    let wide = 2 * sew;
+    number::add(wide, extend(sew, wide, a), extend(sew, wide, b))
+}
+
+pub fn wsub(sew: u64, a: u64, b: u64) -> u64
+    requires { ⌜ Width (2 * sew) × ((a < 2 ^ sew) × (b < 2 ^ sew)) ⌝ }
+    ensures { λ r. ⌜ r ≡ vwsub sew a b ⌝ }
+{
+    let wide = 2 * sew;
+    number::sub(wide, extend(sew, wide, a), extend(sew, wide, b))
+}
+
+// a has 2 * sew bits already.
+pub fn wadd_w(sew: u64, a: u64, b: u64) -> u64
+    requires { ⌜ Width (2 * sew) × ((a < 2 ^ (2 * sew)) × (b < 2 ^ sew)) ⌝ }
+    ensures { λ r. ⌜ r ≡ vwadd-w sew a b ⌝ }
+{
+    let wide = 2 * sew;
+    number::add(wide, a, extend(sew, wide, b))
+}
+
+pub fn wsub_w(sew: u64, a: u64, b: u64) -> u64
+    requires { ⌜ Width (2 * sew) × ((a < 2 ^ (2 * sew)) × (b < 2 ^ sew)) ⌝ }
+    ensures { λ r. ⌜ r ≡ vwsub-w sew a b ⌝ }
+{
+    let wide = 2 * sew;
+    number::sub(wide, a, extend(sew, wide, b))
+}
+
+// ---- 12.3
+
+pub fn zext(f: u64, sew: u64, a: u64) -> u64
+    ensures { λ r. ⌜ r ≡ vzext f sew a ⌝ }
+{
+    a
+}
+
+pub fn sext(f: u64, sew: u64, a: u64) -> u64
+    requires { ⌜ (1 ≤ f) × (Width sew × (Width (sew / f) × (a < 2 ^ (sew / f)))) ⌝ }
+    ensures { λ r. ⌜ r ≡ vsext f sew a ⌝ }
+{
+    extend(sew / f, sew, a)
+}
+
+// ---- 12.4
+
+pub fn adc(sew: u64, a: u64, b: u64, c: u64) -> u64
+    requires { ⌜ Width sew ⌝ }
+    ensures { λ r. ⌜ r ≡ vadc sew a b c ⌝ }
+{
+    number::add(sew, number::add(sew, a, b), c)
+}
+
+// a + b + c carries out where what a leaves to all ones is less than b + c.
+pub fn madc(sew: u64, a: u64, b: u64, c: u64) -> u64
+    requires { ⌜ Width sew × ((a < 2 ^ sew) × ((b < 2 ^ sew) × (c < 2))) ⌝ }
+    ensures { λ r. ⌜ r ≡ vmadc sew a b c ⌝ }
+{
+    msbc(sew, number::ones(sew) - a, b, c)
+}
+
+pub fn sbc(sew: u64, a: u64, b: u64, c: u64) -> u64
+    requires { ⌜ Width sew ⌝ }
+    ensures { λ r. ⌜ r ≡ vsbc sew a b c ⌝ }
+{
+    number::sub(sew, a, number::add(sew, b, c))
+}
+
+// a < b + c with no sum, since b + 1 may not fit.
+pub fn msbc(sew: u64, a: u64, b: u64, c: u64) -> u64
+    requires { ⌜ c < 2 ⌝ }
+    ensures { λ r. ⌜ r ≡ vmsbc sew a b c ⌝ }
+{
+    if c == 1 {
+        msleu(sew, a, b)
+    } else {
+        msltu(sew, a, b)
+    }
+}
+
+// ---- 12.5
+
+pub fn and(sew: u64, a: u64, b: u64) -> u64
+    ensures { λ r. ⌜ r ≡ vand sew a b ⌝ }
+{
+    a & b
+}
+
+pub fn or(sew: u64, a: u64, b: u64) -> u64
+    ensures { λ r. ⌜ r ≡ vor sew a b ⌝ }
+{
+    a | b
+}
+
+pub fn xor(sew: u64, a: u64, b: u64) -> u64
+    ensures { λ r. ⌜ r ≡ vxor sew a b ⌝ }
+{
+    a ^ b
+}
+
+// ---- 12.6
+
+// The v bits of a, signed, shifted right; of that the low w bits.
+fn shift_signed(v: u64, w: u64, a: u64, b: u64) -> u64
+    requires { ⌜ Width v × (Width w × (a < 2 ^ v)) ⌝ }
+    ensures { λ r. ⌜ r ≡ wrap w (shrZ (signed v a) (2 ^ (b % v))) ⌝ }
+{
+    let x = number::to_signed(v, a);
+    number::from_signed(w, x >> (b % v))
+}
+
+pub fn sll(sew: u64, a: u64, b: u64) -> u64
+    requires { ⌜ Width sew ⌝ }
+    ensures { λ r. ⌜ r ≡ vsll sew a b ⌝ }
+{
+    number::low(sew, a << (b % sew))
+}
+
+pub fn srl(sew: u64, a: u64, b: u64) -> u64
+    requires { ⌜ Width sew ⌝ }
+    ensures { λ r. ⌜ r ≡ vsrl sew a b ⌝ }
+{
+    a >> (b % sew)
+}
+
+pub fn sra(sew: u64, a: u64, b: u64) -> u64
+    requires { ⌜ Width sew × (a < 2 ^ sew) ⌝ }
+    ensures { λ r. ⌜ r ≡ vsra sew a b ⌝ }
+{
+    shift_signed(sew, sew, a, b)
+}
+
+// ---- 12.7
+
+pub fn nsrl(sew: u64, a: u64, b: u64) -> u64
+    requires { ⌜ Width (2 * sew) ⌝ }
+    ensures { λ r. ⌜ r ≡ vnsrl sew a b ⌝ }
+{
+    number::low(sew, a >> (b % (2 * sew)))
+}
+
+pub fn nsra(sew: u64, a: u64, b: u64) -> u64
+    requires { ⌜ Width (2 * sew) × (a < 2 ^ (2 * sew)) ⌝ }
+    ensures { λ r. ⌜ r ≡ vnsra sew a b ⌝ }
+{
+    shift_signed(2 * sew, sew, a, b)
+}
+
+// ---- 12.8
+
+// One of two numbers, by a test.
+fn choose(test: bool, x: u64, y: u64) -> u64
+    ensures { λ r. ⌜ r ≡ cond test x y ⌝ }
+{
+    if test { x } else { y }
+}
+
+// A mask bit.
+fn flagged(test: bool) -> u64
+    ensures { λ r. ⌜ r ≡ flag test ⌝ }
+{
+    choose(test, 1, 0)
+}
+
+// One of two numbers, by whether a is less than b, both signed.
+fn choose_less(sew: u64, a: u64, b: u64, x: u64, y: u64) -> u64
+    requires { ⌜ Width sew × ((a < 2 ^ sew) × (b < 2 ^ sew)) ⌝ }
+    ensures { λ r. ⌜ r ≡ cond (ltZ (signed sew a) (signed sew b)) x y ⌝ }
+{
+    choose(number::to_signed(sew, a) < number::to_signed(sew, b), x, y)
+}
+
+pub fn mseq(sew: u64, a: u64, b: u64) -> u64
+    ensures { λ r. ⌜ r ≡ vmseq sew a b ⌝ }
+{
+    flagged(a == b)
+}
+
+pub fn msne(sew: u64, a: u64, b: u64) -> u64
+    ensures { λ r. ⌜ r ≡ vmsne sew a b ⌝ }
+{
+    flagged(a != b)
+}
+
+pub fn msltu(sew: u64, a: u64, b: u64) -> u64
+    ensures { λ r. ⌜ r ≡ vmsltu sew a b ⌝ }
+{
+    flagged(a < b)
+}
+
+pub fn mslt(sew: u64, a: u64, b: u64) -> u64
+    requires { ⌜ Width sew × ((a < 2 ^ sew) × (b < 2 ^ sew)) ⌝ }
+    ensures { λ r. ⌜ r ≡ vmslt sew a b ⌝ }
+{
+    choose_less(sew, a, b, 1, 0)
+}
+
+pub fn msleu(sew: u64, a: u64, b: u64) -> u64
+    ensures { λ r. ⌜ r ≡ vmsleu sew a b ⌝ }
+{
+    flagged(a <= b)
+}
+
+pub fn msle(sew: u64, a: u64, b: u64) -> u64
+    requires { ⌜ Width sew × ((a < 2 ^ sew) × (b < 2 ^ sew)) ⌝ }
+    ensures { λ r. ⌜ r ≡ vmsle sew a b ⌝ }
+{
+    choose_less(sew, b, a, 0, 1)
+}
+
+pub fn msgtu(sew: u64, a: u64, b: u64) -> u64
+    ensures { λ r. ⌜ r ≡ vmsgtu sew a b ⌝ }
+{
+    flagged(b < a)
+}
+
+pub fn msgt(sew: u64, a: u64, b: u64) -> u64
+    requires { ⌜ Width sew × ((a < 2 ^ sew) × (b < 2 ^ sew)) ⌝ }
+    ensures { λ r. ⌜ r ≡ vmsgt sew a b ⌝ }
+{
+    choose_less(sew, b, a, 1, 0)
+}
+
+// ---- 12.9
+
+pub fn minu(sew: u64, a: u64, b: u64) -> u64
+    ensures { λ r. ⌜ r ≡ vminu sew a b ⌝ }
+{
+    if a < b { a } else { b }
+}
+
+pub fn min(sew: u64, a: u64, b: u64) -> u64
+    requires { ⌜ Width sew × ((a < 2 ^ sew) × (b < 2 ^ sew)) ⌝ }
+    ensures { λ r. ⌜ r ≡ vmin sew a b ⌝ }
+{
+    choose_less(sew, a, b, a, b)
+}
+
+pub fn maxu(sew: u64, a: u64, b: u64) -> u64
+    ensures { λ r. ⌜ r ≡ vmaxu sew a b ⌝ }
+{
+    if a < b { b } else { a }
+}
+
+pub fn max(sew: u64, a: u64, b: u64) -> u64
+    requires { ⌜ Width sew × ((a < 2 ^ sew) × (b < 2 ^ sew)) ⌝ }
+    ensures { λ r. ⌜ r ≡ vmax sew a b ⌝ }
+{
+    choose_less(sew, a, b, b, a)
+}
+
+// ---- 12.15, 12.16
+
+pub fn merge(sew: u64, a: u64, b: u64, c: u64) -> u64
+    ensures { λ r. ⌜ r ≡ vmerge sew a b c ⌝ }
+{
+    choose(c == 1, b, a)
+}
+
+pub fn mv(sew: u64, b: u64) -> u64
+    ensures { λ r. ⌜ r ≡ vmv sew b ⌝ }
+{
+    b
+}

@@ -1,0 +1,4 @@
+pub mod OperandLaws
+pub mod ProductLaws
+pub mod DivideLaws
+pub mod MultiplyAddLaws

@@ -1,0 +1,5 @@
+pub mod Diff
+pub mod LowBits
+pub mod WrapLaws
+pub mod SignedLaws
+pub mod Bounds
