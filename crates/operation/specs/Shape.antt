@@ -1,6 +1,6 @@
 -- The table of shapes: what the operands of each operation are, as multiples of SEW.
 use Prim.Native.Nat.{ℕ, _*_, _/_}
-use mathlib.Core.Bool.{Bool, true, false}
+use mathlib.Core.Bool.{Bool, true, false, _||_, cond}
 use Rattle.operation.specs.declared.Op.{Op}
 use Rattle.operation.specs.declared.Op.the-variants.{Vadd, Vsub, Vrsub, Vwaddu, Vwadd, Vwsubu, Vwsub, VwadduW, VwaddW, VwsubuW, VwsubW, VzextVf2, VsextVf2, VzextVf4, VsextVf4, VzextVf8, VsextVf8, Vadc, Vsbc, Vmadc, Vmsbc, Vand, Vor, Vxor, Vsll, Vsrl, Vsra, Vnsrl, Vnsra, Vmseq, Vmsne, Vmsltu, Vmslt, Vmsleu, Vmsle, Vmsgtu, Vmsgt, Vminu, Vmin, Vmaxu, Vmax, Vmul, Vmulh, Vmulhu, Vmulhsu, Vdivu, Vdiv, Vremu, Vrem, Vwmul, Vwmulu, Vwmulsu, Vmacc, Vnmsac, Vmadd, Vnmsub, Vwmaccu, Vwmacc, Vwmaccsu, Vwmaccus, Vmerge, Vmv, Vsaddu, Vsadd, Vssubu, Vssub, Vaaddu, Vaadd, Vasubu, Vasub, Vsmul, Vssrl, Vssra, Vnclipu, Vnclip, Vmand, Vmnand, Vmandn, Vmxor, Vmor, Vmnor, Vmorn, Vmxnor}
 use Rattle.operation.specs.declared.Size.{Size}
@@ -18,6 +18,16 @@ eewOf Quarter sew = sew / 4
 eewOf Half sew = sew / 2
 eewOf Single sew = sew
 eewOf Double sew = 2 * sew
+
+-- whether an operand has 2 * SEW bits
+abbrev pub isDouble : Size → Bool
+isDouble Absent = false
+isDouble Bit = false
+isDouble Eighth = false
+isDouble Quarter = false
+isDouble Half = false
+isDouble Single = false
+isDouble Double = true
 
 -- ---- the shapes that there are: vd = vs2 op vs1
 
@@ -195,3 +205,7 @@ shapeOf Vmor = mask
 shapeOf Vmnor = mask
 shapeOf Vmorn = mask
 shapeOf Vmxnor = mask
+
+-- the largest SEW of an operation: 32 where an operand has 2 * SEW bits, and for the high products and vsmul (document 01)
+abbrev pub largestSew : Op → ℕ
+largestSew op = cond (shapeOf op .narrow || (isDouble (shapeOf op .vd) || isDouble (shapeOf op .vs2))) 32 64

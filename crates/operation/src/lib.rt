@@ -1,7 +1,7 @@
 // The operations of sections 12, 13 and 16.1 of document 000 that work element by element, and the shape of each.
 ghost use mathlib.Core.Path.{_≡_};
 ghost use Prim.Native.Nat.{_≤_};
-ghost use Rattle.operation.specs.Shape.{eewOf, shapeOf};
+ghost use Rattle.operation.specs.Shape.{eewOf, isDouble, shapeOf, largestSew};
 
 pub enum Op {
     Vadd,
@@ -413,5 +413,33 @@ pub fn shape_of(op: Op) -> Shape
         Op::Vmnor => MASK,
         Op::Vmorn => MASK,
         Op::Vmxnor => MASK,
+    }
+}
+
+fn is_double(size: Size) -> bool
+    ensures { λ r. ⌜ r ≡ isDouble size ⌝ }
+{
+    match size {
+        Size::Absent => false,
+        Size::Bit => false,
+        Size::Eighth => false,
+        Size::Quarter => false,
+        Size::Half => false,
+        Size::Single => false,
+        Size::Double => true,
+    }
+}
+
+// The largest SEW that an operation is there at, by 64 bits for its widest operand.
+pub fn largest_sew(op: Op) -> u64
+    ensures { λ r. ⌜ r ≡ largestSew op ⌝ }
+{
+    let shape = shape_of(op);
+    let vd = shape.vd;
+    let vs2 = shape.vs2;
+    if shape.narrow | (is_double(vd) | is_double(vs2)) {
+        32
+    } else {
+        64
     }
 }

@@ -1,0 +1,32 @@
+-- The access test of one element (document 01, 'One turn and its answer'): alignment, then 37, then end of memory and right.
+use Prim.Native.Nat.{ℕ, _+_, _-_, _/_, _%_}
+use mathlib.Core.Bool.{Bool, true, false, not, _&&_, cond}
+use mathlib.Core.List.{List}
+use lib.ListN.{getD}
+use lib.Dec.{leb, eqb}
+use Rattle.answer.specs.declared.Answer.{Answer}
+use Rattle.answer.specs.declared.Answer.the-variants.{LoadMisaligned, LoadAccess, StoreMisaligned, StoreAccess, TwoPages}
+use Rattle.answer.specs.declared.Verdict.{Verdict}
+use Rattle.answer.specs.declared.Verdict.the-variants.{Accepted, Refused}
+
+-- a page has 256 bytes
+abbrev pub pageOf : ℕ → ℕ
+pageOf a = a / 256
+
+-- the right that an access needs: 1 read, 2 read and write
+abbrev pub needed : Bool → ℕ
+needed store = cond store 2 1
+
+abbrev pub misaligned : Bool → Answer
+misaligned store = cond store StoreMisaligned LoadMisaligned
+
+abbrev pub denied : Bool → Answer
+denied store = cond store StoreAccess LoadAccess
+
+-- the element of n bytes at address a, by the pages' rights and the number of bytes of memory
+unfoldable pub accessOf : List ℕ → ℕ → Bool → ℕ → ℕ → Verdict
+accessOf rights memory store a n =
+    cond (not (eqb (a % n) 0)) (Refused (misaligned store))
+    (cond (not (eqb (pageOf a) (pageOf (a + n - 1)))) (Refused TwoPages)
+    (cond (leb (a + n) memory && leb (needed store) (getD rights (pageOf a) 0)) Accepted
+    (Refused (denied store))))

@@ -1,0 +1,12 @@
+use borrow.Author.Needs.{needs}
+use Rattle.number.proofs.SignedLaws.{in-range}
+use Rattle.fixed.specs.Fixed.{vssra}
+use Rattle.fixed.proofs.ShiftLaws.{amount-lt, wraps-rounded}
+use Rattle.fixed.proofs.ssra.Statement.{statement}
+use Rattle.fixed.proofs.ssra.Tie as tie
+
+pub ssra-spec : {M : Type 1} → statement M
+unfolding vssra
+ssra-spec =
+    tie.close
+    (tie.spec (λ c κs. search needs) (λ c. search needs) (λ c κs. search amount-lt) (λ c κs. search needs) (λ c. search (wraps-rounded, in-range)))

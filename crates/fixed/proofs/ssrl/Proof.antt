@@ -1,0 +1,9 @@
+use borrow.Author.Needs.{needs}
+use Rattle.fixed.specs.Fixed.{vssrl}
+use Rattle.fixed.proofs.ShiftLaws.{amount-lt}
+use Rattle.fixed.proofs.ssrl.Statement.{statement}
+use Rattle.fixed.proofs.ssrl.Tie as tie
+
+pub ssrl-spec : {M : Type 1} → statement M
+unfolding vssrl
+ssrl-spec = tie.close (tie.spec (λ c. search needs) (λ c κs. search amount-lt) (λ c κs. search needs) (λ c. cc))

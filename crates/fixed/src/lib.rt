@@ -1,0 +1,322 @@
+// The element operations of section 13 of document 000, with the rounding and saturation of sections 4.8 and 4.9. `a` is the element of
+// vs2, `b` that of vs1 (or the scalar or immediate in its place), `rm` the rounding mode.
+ghost use mathlib.Core.Path.{_≡_};
+ghost use Prim.Native.Nat.{_+_, _*_, _%_, _<_, _≤_, _^_};
+ghost use lib.IntN.{pos};
+ghost use Rattle.number.specs.Width.{Width};
+ghost use Rattle.fixed.specs.Round.{vxrmOf, increment, roundoffUnsigned, roundoffSigned, clipUnsigned, clipSigned};
+ghost use Rattle.fixed.specs.Fixed.{vsaddu, vssubu, vsadd, vssub, vaaddu, vasubu, vaadd, vasub, vssrl, vssra, vnclipu, vnclip, vsmul};
+
+// An element's result, and whether it saturated.
+pub struct Element {
+    pub value: u64,
+    pub saturates: bool,
+}
+
+// The rounding modes, by their names in section 4.8.
+pub enum Vxrm {
+    Rnu,
+    Rne,
+    Rdn,
+    Rod,
+}
+
+pub fn vxrm_of(vxrm: u64) -> Vxrm
+    ensures { λ r. ⌜ r ≡ vxrmOf vxrm ⌝ }
+{
+    match vxrm {
+        0 => Vxrm::Rnu,
+        1 => Vxrm::Rne,
+        2 => Vxrm::Rdn,
+        _ => Vxrm::Rod,
+    }
+}
+
+// v at most 2^sew - 1, else that.
+pub fn clip_unsigned(sew: u64, v: u64) -> Element
+    requires { ⌜ Width sew ⌝ }
+    ensures { λ r. ⌜ r ≡ clipUnsigned sew (pos v) ⌝ }
+{
+    let m = number::ones(sew);
+    if m < v {
+        return Element {
+            value: m,
+            saturates: true,
+        };
+    }
+    Element {
+        value: v,
+        saturates: false,
+    }
+}
+
+pub fn clip_signed(sew: u64, z: i64) -> Element
+    requires { ⌜ Width sew ⌝ }
+    ensures { λ r. ⌜ r ≡ clipSigned sew z ⌝ }
+{
+    let h = number::ones(sew) / 2;
+    let top = h as i64;
+    if z < -1 - top {
+        return Element {
+            value: h + 1,
+            saturates: true,
+        };
+    }
+    if top < z {
+        return Element {
+            value: h,
+            saturates: true,
+        };
+    }
+    let x = number::from_signed(sew, z);
+    Element {
+        value: x,
+        saturates: false,
+    }
+}
+
+pub fn saddu(sew: u64, a: u64, b: u64) -> Element
+    requires { ⌜ Width sew × ((a < 2 ^ sew) × (b < 2 ^ sew)) ⌝ }
+    ensures { λ r. ⌜ r ≡ vsaddu sew a b ⌝ }
+{
+    let m = number::ones(sew);
+    if m - a < b {
+        return Element {
+            value: m,
+            saturates: true,
+        };
+    }
+    Element {
+        value: a + b,
+        saturates: false,
+    }
+}
+
+pub fn ssubu(sew: u64, a: u64, b: u64) -> Element
+    requires { ⌜ Width sew × (a < 2 ^ sew) ⌝ }
+    ensures { λ r. ⌜ r ≡ vssubu sew a b ⌝ }
+{
+    if a < b {
+        return Element {
+            value: 0,
+            saturates: true,
+        };
+    }
+    Element {
+        value: a - b,
+        saturates: false,
+    }
+}
+
+// The sum wraps where the operands have one sign and the sum the other.
+pub fn sadd(sew: u64, a: u64, b: u64) -> Element
+    requires { ⌜ Width sew × ((a < 2 ^ sew) × (b < 2 ^ sew)) ⌝ }
+    ensures { λ r. ⌜ r ≡ vsadd sew a b ⌝ }
+{
+    let h = number::ones(sew) / 2;
+    let s = number::add(sew, a, b);
+    if a <= h {
+        if b <= h {
+            if h < s {
+                return Element {
+                    value: h,
+                    saturates: true,
+                };
+            }
+        }
+    } else {
+        if h < b {
+            if s <= h {
+                return Element {
+                    value: h + 1,
+                    saturates: true,
+                };
+            }
+        }
+    }
+    Element {
+        value: s,
+        saturates: false,
+    }
+}
+
+// The difference wraps where the operands have different signs and the difference has the second's.
+pub fn ssub(sew: u64, a: u64, b: u64) -> Element
+    requires { ⌜ Width sew × ((a < 2 ^ sew) × (b < 2 ^ sew)) ⌝ }
+    ensures { λ r. ⌜ r ≡ vssub sew a b ⌝ }
+{
+    let h = number::ones(sew) / 2;
+    let s = number::sub(sew, a, b);
+    if a <= h {
+        if h < b {
+            if h < s {
+                return Element {
+                    value: h,
+                    saturates: true,
+                };
+            }
+        }
+    } else {
+        if b <= h {
+            if s <= h {
+                return Element {
+                    value: h + 1,
+                    saturates: true,
+                };
+            }
+        }
+    }
+    Element {
+        value: s,
+        saturates: false,
+    }
+}
+
+// 2^d. The shift is apart, so that its callers see the power.
+pub fn power(d: u64) -> u64
+    requires { ⌜ d < 64 ⌝ }
+    ensures { λ r. ⌜ r ≡ 2 ^ d ⌝ }
+{
+    1u64 << d
+}
+
+// The rounding increment: the four rows of the table. `last` is the last kept bit, `lost` the d bits lost.
+pub fn increment_of(rm: Vxrm, d: u64, last: u64, lost: u64) -> u64
+    requires { ⌜ d < 64 ⌝ }
+    ensures { λ r. ⌜ r ≡ increment rm d last lost ⌝ }
+{
+    if d == 0 {
+        return 0;
+    }
+    let half = power(d - 1);
+    let highest = lost / half;
+    match rm {
+        Vxrm::Rnu => highest,
+        Vxrm::Rne => {
+            if lost % half != 0 {
+                highest
+            } else {
+                if last == 1 { highest } else { 0 }
+            }
+        }
+        Vxrm::Rdn => 0,
+        Vxrm::Rod => {
+            if last == 0 {
+                if lost == 0 { 0 } else { 1 }
+            } else {
+                0
+            }
+        }
+    }
+}
+
+pub fn round_unsigned(rm: Vxrm, v: u64, d: u64) -> u64
+    requires { ⌜ d < 64 ⌝ }
+    ensures { λ r. ⌜ r ≡ roundoffUnsigned rm v d ⌝ }
+{
+    if d == 0 {
+        return v;
+    }
+    let kept = v >> d;
+    kept + increment_of(rm, d, kept % 2, number::low(d, v))
+}
+
+pub fn round_signed(rm: Vxrm, z: i64, d: u64) -> i64
+    requires { ⌜ d < 64 ⌝ }
+    ensures { λ r. ⌜ r ≡ roundoffSigned rm z d ⌝ }
+{
+    if d == 0 {
+        return z;
+    }
+    let kept = z >> (d as i64);
+    let last = number::from_signed(1, kept);
+    kept + (increment_of(rm, d, last, number::from_signed(d, z)) as i64)
+}
+
+// x + y + c with its last bit rounded off, where the sum may have one bit more than a u64.
+pub fn average(rm: Vxrm, sew: u64, x: u64, y: u64, c: u64) -> u64
+    requires { ⌜ Width sew × (c < 2) ⌝ }
+    ensures { λ r. ⌜ r ≡ roundoffUnsigned rm (x + y + c) 1 % 2 ^ sew ⌝ }
+{
+    let low = x % 2 + y % 2 + c;
+    let kept = x / 2 + y / 2 + low / 2;
+    number::add(sew, kept, increment_of(rm, 1, kept % 2, low % 2))
+}
+
+pub fn aaddu(rm: Vxrm, sew: u64, a: u64, b: u64) -> u64
+    requires { ⌜ Width sew ⌝ }
+    ensures { λ r. ⌜ r ≡ vaaddu rm sew a b ⌝ }
+{
+    average(rm, sew, a, b, 0)
+}
+
+// a - b is a + (2^sew - 1 - b) + 1 less 2^sew, whose half is 2^(sew - 1).
+pub fn asubu(rm: Vxrm, sew: u64, a: u64, b: u64) -> u64
+    requires { ⌜ Width sew × ((2 ≤ sew) × ((a < 2 ^ sew) × (b < 2 ^ sew))) ⌝ }
+    ensures { λ r. ⌜ r ≡ vasubu rm sew a b ⌝ }
+{
+    let m = number::ones(sew);
+    number::add(sew, average(rm, sew, a, m - b, 1), m / 2 + 1)
+}
+
+// A signed value plus 2^(sew - 1) is not negative. Two of them add 2^sew.
+pub fn aadd(rm: Vxrm, sew: u64, a: u64, b: u64) -> u64
+    requires { ⌜ Width sew × ((2 ≤ sew) × ((a < 2 ^ sew) × (b < 2 ^ sew))) ⌝ }
+    ensures { λ r. ⌜ r ≡ vaadd rm sew a b ⌝ }
+{
+    let h = number::ones(sew) / 2 + 1;
+    let x = number::add(sew, a, h);
+    let y = number::add(sew, b, h);
+    number::add(sew, average(rm, sew, x, y, 0), h)
+}
+
+// a - b: b's complement, 2^sew - 1 - b, has the signed value -1 - b.
+pub fn asub(rm: Vxrm, sew: u64, a: u64, b: u64) -> u64
+    requires { ⌜ Width sew × ((2 ≤ sew) × ((a < 2 ^ sew) × (b < 2 ^ sew))) ⌝ }
+    ensures { λ r. ⌜ r ≡ vasub rm sew a b ⌝ }
+{
+    let m = number::ones(sew);
+    let h = m / 2 + 1;
+    let x = number::add(sew, a, h);
+    let y = number::add(sew, m - b, h);
+    number::add(sew, average(rm, sew, x, y, 1), h)
+}
+
+pub fn ssrl(rm: Vxrm, sew: u64, a: u64, b: u64) -> u64
+    requires { ⌜ Width sew ⌝ }
+    ensures { λ r. ⌜ r ≡ vssrl rm sew a b ⌝ }
+{
+    number::low(sew, round_unsigned(rm, a, b % sew))
+}
+
+pub fn ssra(rm: Vxrm, sew: u64, a: u64, b: u64) -> u64
+    requires { ⌜ Width sew × (a < 2 ^ sew) ⌝ }
+    ensures { λ r. ⌜ r ≡ vssra rm sew a b ⌝ }
+{
+    let z = number::to_signed(sew, a);
+    number::from_signed(sew, round_signed(rm, z, b % sew))
+}
+
+pub fn nclipu(rm: Vxrm, sew: u64, a: u64, b: u64) -> Element
+    requires { ⌜ Width (2 * sew) ⌝ }
+    ensures { λ r. ⌜ r ≡ vnclipu rm sew a b ⌝ }
+{
+    clip_unsigned(sew, round_unsigned(rm, a, b % (2 * sew)))
+}
+
+pub fn nclip(rm: Vxrm, sew: u64, a: u64, b: u64) -> Element
+    requires { ⌜ Width (2 * sew) × (a < 2 ^ (2 * sew)) ⌝ }
+    ensures { λ r. ⌜ r ≡ vnclip rm sew a b ⌝ }
+{
+    let z = number::to_signed(2 * sew, a);
+    clip_signed(sew, round_signed(rm, z, b % (2 * sew)))
+}
+
+pub fn smul(rm: Vxrm, sew: u64, a: u64, b: u64) -> Element
+    requires { ⌜ Width (2 * sew) × ((a < 2 ^ sew) × (b < 2 ^ sew)) ⌝ }
+    ensures { λ r. ⌜ r ≡ vsmul rm sew a b ⌝ }
+{
+    let x = number::to_signed(sew, a);
+    let y = number::to_signed(sew, b);
+    clip_signed(sew, round_signed(rm, x * y, sew - 1))
+}

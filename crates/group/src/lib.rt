@@ -1,0 +1,80 @@
+// Register groups: EMUL, alignment, the overlap rule and the v0 rule, as tests.
+// The tests are joined by `&` and `|`, as in the definitions: no branches.
+ghost use mathlib.Core.Path.{_≡_};
+ghost use Prim.Native.Nat.{_+_, _≤_, _<_};
+ghost use Rattle.group.specs.Group.{emul8Of, maskGroup, registersOf, placedOf, mayOverlapOf, sparesV0};
+
+// A group: its first register, EEW, and 8 * EMUL.
+pub struct Group {
+    pub reg: usize,
+    pub eew: usize,
+    pub emul8: usize,
+}
+
+// 8 * EMUL.
+pub fn emul8(sew: usize, lmul8: usize, eew: usize) -> usize
+    requires { ⌜ (1 ≤ sew) × ((lmul8 ≤ 64) × (eew ≤ 2048)) ⌝ }
+    ensures { λ r. ⌜ r ≡ emul8Of sew lmul8 eew ⌝ }
+{
+    eew * lmul8 / sew
+}
+
+// A mask register.
+pub fn mask(reg: usize) -> Group
+    ensures { λ r. ⌜ r ≡ maskGroup reg ⌝ }
+{
+    Group {
+        reg,
+        eew: 1,
+        emul8: 8,
+    }
+}
+
+pub fn registers(group: Group) -> usize
+    ensures { λ r. ⌜ r ≡ registersOf group ⌝ }
+{
+    if group.emul8 < 8 {
+        return 1;
+    }
+    group.emul8 / 8
+}
+
+// Whether EEW and EMUL are in range, and the group starts at a multiple of EMUL.
+pub fn placed(elen: usize, group: Group) -> bool
+    ensures { λ r. ⌜ r ≡ placedOf elen group ⌝ }
+{
+    (8 <= group.eew)
+        & (group.eew <= elen)
+        & (1 <= group.emul8)
+        & (group.emul8 <= 64)
+        & (group.reg % registers(group) == 0)
+}
+
+// The register after the group's last.
+fn end(group: Group) -> usize
+    requires { ⌜ group .reg < 32 ⌝ }
+    ensures { λ r. ⌜ r ≡ group .reg + registersOf group ⌝ }
+{
+    group.reg + registers(group)
+}
+
+// Whether a destination may overlap a source as it does.
+pub fn may_overlap(d: Group, s: Group) -> bool
+    requires { ⌜ (d .reg < 32) × (s .reg < 32) ⌝ }
+    ensures { λ r. ⌜ r ≡ mayOverlapOf d s ⌝ }
+{
+    let d_end = end(d);
+    let s_end = end(s);
+    (d_end <= s.reg)
+        | (s_end <= d.reg)
+        | (d.eew == s.eew)
+        | ((d.eew < s.eew) & (d.reg == s.reg))
+        | ((s.eew < d.eew) & (s_end == d_end) & (8 <= s.emul8))
+}
+
+// Whether a destination keeps off v0 where v0 is the mask.
+pub fn spares_v0(masked: bool, d: Group) -> bool
+    ensures { λ r. ⌜ r ≡ sparesV0 masked d ⌝ }
+{
+    !masked | (d.reg != 0) | (d.eew == 1)
+}

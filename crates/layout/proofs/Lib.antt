@@ -1,0 +1,4 @@
+pub mod WidthLaws
+pub mod BytesLaws
+pub mod BitLaws
+pub mod ElementLaws
