@@ -3,14 +3,15 @@ use Prim.Native.Nat.{ℕ, zero, suc, _*_, _≤_, _<_}
 use mathlib.Core.Path.{_≡_, refl}
 use mathlib.Core.Logic.{_⊎_, inl, inr, ⊎-elim}
 use mathlib.Core.List.{List, [], _∷_}
-use mathlib.Core.Bool.{Bool, true, false, _&&_, cond, and-eq-true-iff}
+use mathlib.Core.Bool.{Bool, true, false, _&&_, cond}
 use native.Mathlib.Nat.{le-of-suc-le-suc, not-suc-le-zero, mul-le-mul, mul-le-mul-right, div-le-of-le-mul, mod-lt}
 use native.Mathlib.Omega.{arith}
-use borrow.Author.Tests.{leb-true, ltb-true, eqb-true}
+use borrow.Author.Tests.{leb-true, eqb-true}
 use lib.Dec.{leb, eqb, lit<, lit≤}
 use lib.ListN.{length, getD}
 use mir.Syntax.{w64}
 use mir.Val.{Fits}
+use Rattle.laws.proofs.Apart.{both-left, both-right, apart}
 use Rattle.control.specs.declared.Board.{Board}
 use Rattle.control.specs.declared.Control.{Control}
 use Rattle.control.specs.Board.{Valid, base}
@@ -21,17 +22,9 @@ pub base-valid : (b : Board) → b ≡ base → Valid b
 base-valid b e = rw e (record { some = lit≤ tt; most = lit≤ tt; elen = lit≤ tt })
 
 -- ---- tests taken apart
-and-left : (p q : Bool) → (p && q) ≡ true → p ≡ true
-and-left p q e = and-eq-true-iff p q .0 e .0
-
-and-right : (p q : Bool) → (p && q) ≡ true → q ≡ true
-and-right p q e = and-eq-true-iff p q .0 e .1
-
 cond-apart : (p q r : Bool) → cond p q r ≡ true → ((p ≡ true) × (q ≡ true)) ⊎ (r ≡ true)
 cond-apart true q r e = inl (refl, e)
 cond-apart false q r e = inr e
-
-ruleset apart = (and-left, and-right, leb-true, ltb-true, eqb-true)
 
 -- ---- a bound that each entry of a table keeps to holds of whichever is looked up
 abbrev all : (ℕ → Bool) → List ℕ → Bool
@@ -40,8 +33,8 @@ all p (x ∷ xs) = p x && all p xs
 
 entry : (p : ℕ → Bool) (xs : List ℕ) (k : ℕ) → all p xs ≡ true → k < length xs → p (getD xs k 0) ≡ true
 entry p [] k e h = absurd (not-suc-le-zero h)
-entry p (x ∷ xs) zero e h = and-left (p x) (all p xs) e
-entry p (x ∷ xs) (suc k) e h = entry p xs k (and-right (p x) (all p xs) e) (le-of-suc-le-suc h)
+entry p (x ∷ xs) zero e h = both-left (p x) (all p xs) e
+entry p (x ∷ xs) (suc k) e h = entry p xs k (both-right (p x) (all p xs) e) (le-of-suc-le-suc h)
 
 entry-le : (hi : ℕ) (xs : List ℕ) (k : ℕ) → all (λ x. leb x hi) xs ≡ true → k < length xs → getD xs k 0 ≤ hi
 entry-le hi xs k e h = leb-true _ hi (entry (λ x. leb x hi) xs k e h)

@@ -1,7 +1,7 @@
 -- Every result fits its width.
 use Prim.Native.Nat.{ℕ, _<_, _≤_, _^_}
 use native.Mathlib.Omega.{arith}
-use Rattle.number.proofs.Bounds.{bounds}
+use Rattle.width.proofs.Bounds.{bounds}
 use Rattle.fixed.specs.declared.Vxrm.{Vxrm}
 use Rattle.fixed.specs.Fixed.{vsaddu, vsadd, vssubu, vssub, vaaddu, vaadd, vasubu, vasub, vsmul, vssrl, vssra, vnclipu, vnclip}
 use Rattle.fixed.proofs.Bounds.{clip-unsigned-lt, clip-signed-lt}

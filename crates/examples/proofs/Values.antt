@@ -1,6 +1,6 @@
 -- The worked values hold, by computation.
 use mathlib.Core.Path.{refl}
-use Rattle.number.specs.Width.{signed, wrap}
+use Rattle.width.specs.Width.{signed, wrap}
 use Rattle.control.specs.Vtype.{vlmaxOf, supportedOf}
 use Rattle.control.specs.Control.{setOf}
 use Rattle.fixed.specs.Round.{increment, roundoffUnsigned, roundoffSigned, clipUnsigned, clipSigned}

@@ -2,7 +2,7 @@
 use Prim.Native.Nat.{ℕ, zero, suc, _+_, _-_, _^_}
 use mathlib.Core.Path.{_≡_}
 use mathlib.Core.List.{List, [], _∷_, map}
-use Rattle.number.specs.Width.{flag}
+use Rattle.width.specs.Width.{flag}
 use Rattle.control.specs.Board.{base}
 use Rattle.control.specs.declared.Avl.the-variants.{To}
 use Rattle.control.specs.Vtype.{vill, vlmaxOf, supportedOf}

@@ -5,9 +5,9 @@ use native.Mathlib.Omega.{arith}
 use native.Mathlib.Nat.{add-zero}
 use lib.IntN.{ℤ, subℕ, _+ℤ_}
 use lib.Pow.{pow-pos}
-use Rattle.number.specs.Width.{signed, wrap}
-use Rattle.number.proofs.SignedLaws.{half, wrap-half, bias}
-use Rattle.number.proofs.Diff.{pos-diff, diff-eq, add-diff, shr-diff, wrap-diff, wrap-is}
+use Rattle.width.specs.Width.{signed, wrap}
+use Rattle.width.proofs.SignedLaws.{half, wrap-half, bias}
+use Rattle.width.proofs.Diff.{pos-diff, diff-eq, add-diff, shr-diff, wrap-diff, wrap-is}
 use Rattle.fixed.specs.declared.Vxrm.{Vxrm}
 use Rattle.fixed.specs.Round.{increment, roundoffUnsigned, roundoffSigned}
 use Rattle.fixed.specs.Fixed.{vaaddu, vasubu, vaadd, vasub}

@@ -6,8 +6,8 @@ use mathlib.Core.Bool.{Bool, true, false, cond}
 use lib.IntN.{ℤ, pos, negℤ}
 use lib.Signed.{ltZ, leZ}
 use lib.Pow.{pow-pos}
-use Rattle.number.specs.Width.{wrap}
-use Rattle.number.proofs.SignedLaws.{half, wrap-lt}
+use Rattle.width.specs.Width.{wrap}
+use Rattle.width.proofs.SignedLaws.{half, wrap-lt}
 use Rattle.fixed.specs.declared.Element.{Element}
 use Rattle.fixed.specs.Round.{exact, saturated, clipUnsigned, clipSigned}
 

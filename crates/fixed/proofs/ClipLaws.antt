@@ -12,9 +12,9 @@ use mir.Syntax.{w64}
 use mir.Val.{SFits, toZ}
 use mir.Facts.{toZ-ofZ, toZ-pos}
 use borrow.Author.Tests.{le-ltb, le-leb, lt-leb}
-use Rattle.number.specs.Width.{wrap}
-use Rattle.number.proofs.SignedLaws.{half, comp-pos}
-use Rattle.number.proofs.Diff.{diff-pos, diff-neg, pos-diff, negsuc-diff, lt-diff, nlt-diff}
+use Rattle.width.specs.Width.{wrap}
+use Rattle.width.proofs.SignedLaws.{half, comp-pos}
+use Rattle.width.proofs.Diff.{diff-pos, diff-neg, pos-diff, negsuc-diff, lt-diff, nlt-diff}
 use Rattle.fixed.specs.Round.{clipUnsigned, clipSigned, exact, saturated}
 use Rattle.fixed.proofs.RoundLaws.{back}
 

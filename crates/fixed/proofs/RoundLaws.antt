@@ -12,8 +12,8 @@ use mir.Syntax.{w64}
 use mir.Val.{Fits, SFits, toZ, ofZ}
 use mir.Facts.{toZ-ofZ, toZ-pos}
 use borrow.Author.Tests.{eq-eqb, ne-eqb}
-use Rattle.number.specs.Width.{wrap}
-use Rattle.number.proofs.SignedLaws.{wrap-lt, shr-back}
+use Rattle.width.specs.Width.{wrap}
+use Rattle.width.proofs.SignedLaws.{wrap-lt, shr-back}
 use Rattle.fixed.specs.declared.Vxrm.{Vxrm}
 use Rattle.fixed.specs.declared.Vxrm.the-variants.{Rnu, Rne, Rdn, Rod}
 use Rattle.fixed.specs.Round.{increment, roundoffUnsigned, roundoffSigned}

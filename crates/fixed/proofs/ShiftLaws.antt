@@ -1,24 +1,19 @@
 -- A rounded i64 that is then wrapped or clipped, for the shifts, the narrowing clips and the fractional multiply.
 use mathlib.Core.Path.{_≡_, ap, ap₂, _∙_, subst⁻¹}
-use Prim.Native.Nat.{ℕ, _*_, _%_, _<_, _≤_, _^_}
+use Prim.Native.Nat.{ℕ, _*_, _<_, _≤_, _^_}
 use native.Mathlib.Omega.{arith}
-use native.Mathlib.Nat.{mod-lt}
 use lib.IntN.{ℤ, natAbs, _*ℤ_}
 use lib.Signed.{mag}
 use lib.Dec.{lit<}
 use mir.Syntax.{w64}
 use mir.Val.{SFits}
 use mir.Facts.{toZ-ofZ}
-use Rattle.number.specs.Width.{Width, signed, wrap}
-use Rattle.number.proofs.SignedLaws.{in-range, op-fits, mul-fits, signed-abs}
+use Rattle.width.specs.Width.{Width, signed, wrap}
+use Rattle.width.proofs.SignedLaws.{in-range, op-fits, mul-fits, signed-abs}
 use Rattle.fixed.specs.declared.Element.{Element}
 use Rattle.fixed.specs.declared.Vxrm.{Vxrm}
 use Rattle.fixed.specs.Round.{roundoffSigned, clipSigned}
 use Rattle.fixed.proofs.RoundLaws.{back}
-
--- a shift amount
-pub amount-lt : (b w : ℕ) → Width w → b % w < 64
-amount-lt b w h = omega (arith, mod-lt b (h .some))
 
 module _ (rm : Vxrm) (w d : ℕ) (q x z : ℤ) (q-is : q ≡ roundoffSigned rm (back x) d) (q-fits : mag q < 2 ^ 63) (x-fits : SFits w64 x) (x-is : x ≡ z) where
   rounded : back q ≡ roundoffSigned rm z d

@@ -5,9 +5,9 @@ use native.Mathlib.Omega.{arith}
 use native.Mathlib.Decide.{decLe}
 use native.Mathlib.Nat.{lt-of-not-le, add-zero, mod-eq-of-lt}
 use lib.IntN.{ℤ, pos, negℤ, subℕ, _+ℤ_, _-ℤ_, +ℤ-idr, +ℤ-assoc}
-use Rattle.number.specs.Width.{signed, wrap}
-use Rattle.number.proofs.SignedLaws.{half, signed-low, signed-high}
-use Rattle.number.proofs.Diff.{pos-diff, diff-eq, add-diff, neg-diff, mod-is, wrap-diff}
+use Rattle.width.specs.Width.{signed, wrap}
+use Rattle.width.proofs.SignedLaws.{half, signed-low, signed-high}
+use Rattle.width.proofs.Diff.{pos-diff, diff-eq, add-diff, neg-diff, mod-is, wrap-diff}
 use Rattle.fixed.specs.Round.{clipSigned, exact, saturated}
 use Rattle.fixed.specs.Fixed.{vsadd, vssub}
 use Rattle.fixed.proofs.ClipLaws.{diff-under, diff-over, diff-within}

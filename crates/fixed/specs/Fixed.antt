@@ -2,7 +2,7 @@
 -- vs1 (or the scalar or immediate in its place) are elements.
 use Prim.Native.Nat.{ℕ, _+_, _-_, _*_, _%_, _^_}
 use lib.IntN.{pos, subℕ, _+ℤ_, _-ℤ_, _*ℤ_}
-use Rattle.number.specs.Width.{signed, wrap}
+use Rattle.width.specs.Width.{signed, wrap}
 use Rattle.fixed.specs.declared.Element.{Element}
 use Rattle.fixed.specs.declared.Vxrm.{Vxrm}
 use Rattle.fixed.specs.Round.{roundoffUnsigned, roundoffSigned, clipUnsigned, clipSigned}

@@ -4,7 +4,7 @@ use lib.IntN.{ℤ, pos, negℤ, _+ℤ_}
 use lib.Signed.{shrZ, ltZ, leZ}
 use lib.Dec.{eqb}
 use mathlib.Core.Bool.{true, false, cond, not, _&&_, _||_}
-use Rattle.number.specs.Width.{wrap, flag}
+use Rattle.width.specs.Width.{wrap, flag}
 use Rattle.fixed.specs.declared.Element.{Element}
 use Rattle.fixed.specs.declared.Vxrm.{Vxrm}
 use Rattle.fixed.specs.declared.Vxrm.the-variants.{Rnu, Rne, Rdn, Rod}

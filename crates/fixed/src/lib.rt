@@ -3,7 +3,7 @@
 ghost use mathlib.Core.Path.{_≡_};
 ghost use Prim.Native.Nat.{_+_, _*_, _%_, _<_, _≤_, _^_};
 ghost use lib.IntN.{pos};
-ghost use Rattle.number.specs.Width.{Width};
+ghost use Rattle.width.specs.Width.{Width};
 ghost use Rattle.fixed.specs.Round.{vxrmOf, increment, roundoffUnsigned, roundoffSigned, clipUnsigned, clipSigned};
 ghost use Rattle.fixed.specs.Fixed.{vsaddu, vssubu, vsadd, vssub, vaaddu, vasubu, vaadd, vasub, vssrl, vssra, vnclipu, vnclip, vsmul};
 
@@ -37,7 +37,7 @@ pub fn clip_unsigned(sew: u64, v: u64) -> Element
     requires { ⌜ Width sew ⌝ }
     ensures { λ r. ⌜ r ≡ clipUnsigned sew (pos v) ⌝ }
 {
-    let m = number::ones(sew);
+    let m = width::ones(sew);
     if m < v {
         return Element {
             value: m,
@@ -54,7 +54,7 @@ pub fn clip_signed(sew: u64, z: i64) -> Element
     requires { ⌜ Width sew ⌝ }
     ensures { λ r. ⌜ r ≡ clipSigned sew z ⌝ }
 {
-    let h = number::ones(sew) / 2;
+    let h = width::ones(sew) / 2;
     let top = h as i64;
     if z < -1 - top {
         return Element {
@@ -68,7 +68,7 @@ pub fn clip_signed(sew: u64, z: i64) -> Element
             saturates: true,
         };
     }
-    let x = number::from_signed(sew, z);
+    let x = width::from_signed(sew, z);
     Element {
         value: x,
         saturates: false,
@@ -79,7 +79,7 @@ pub fn saddu(sew: u64, a: u64, b: u64) -> Element
     requires { ⌜ Width sew × ((a < 2 ^ sew) × (b < 2 ^ sew)) ⌝ }
     ensures { λ r. ⌜ r ≡ vsaddu sew a b ⌝ }
 {
-    let m = number::ones(sew);
+    let m = width::ones(sew);
     if m - a < b {
         return Element {
             value: m,
@@ -113,8 +113,8 @@ pub fn sadd(sew: u64, a: u64, b: u64) -> Element
     requires { ⌜ Width sew × ((a < 2 ^ sew) × (b < 2 ^ sew)) ⌝ }
     ensures { λ r. ⌜ r ≡ vsadd sew a b ⌝ }
 {
-    let h = number::ones(sew) / 2;
-    let s = number::add(sew, a, b);
+    let h = width::ones(sew) / 2;
+    let s = width::add(sew, a, b);
     if a <= h {
         if b <= h {
             if h < s {
@@ -145,8 +145,8 @@ pub fn ssub(sew: u64, a: u64, b: u64) -> Element
     requires { ⌜ Width sew × ((a < 2 ^ sew) × (b < 2 ^ sew)) ⌝ }
     ensures { λ r. ⌜ r ≡ vssub sew a b ⌝ }
 {
-    let h = number::ones(sew) / 2;
-    let s = number::sub(sew, a, b);
+    let h = width::ones(sew) / 2;
+    let s = width::sub(sew, a, b);
     if a <= h {
         if h < b {
             if h < s {
@@ -218,7 +218,7 @@ pub fn round_unsigned(rm: Vxrm, v: u64, d: u64) -> u64
         return v;
     }
     let kept = v >> d;
-    kept + increment_of(rm, d, kept % 2, number::low(d, v))
+    kept + increment_of(rm, d, kept % 2, width::low(d, v))
 }
 
 pub fn round_signed(rm: Vxrm, z: i64, d: u64) -> i64
@@ -229,8 +229,8 @@ pub fn round_signed(rm: Vxrm, z: i64, d: u64) -> i64
         return z;
     }
     let kept = z >> (d as i64);
-    let last = number::from_signed(1, kept);
-    kept + (increment_of(rm, d, last, number::from_signed(d, z)) as i64)
+    let last = width::from_signed(1, kept);
+    kept + (increment_of(rm, d, last, width::from_signed(d, z)) as i64)
 }
 
 // x + y + c with its last bit rounded off, where the sum may have one bit more than a u64.
@@ -240,7 +240,7 @@ pub fn average(rm: Vxrm, sew: u64, x: u64, y: u64, c: u64) -> u64
 {
     let low = x % 2 + y % 2 + c;
     let kept = x / 2 + y / 2 + low / 2;
-    number::add(sew, kept, increment_of(rm, 1, kept % 2, low % 2))
+    width::add(sew, kept, increment_of(rm, 1, kept % 2, low % 2))
 }
 
 pub fn aaddu(rm: Vxrm, sew: u64, a: u64, b: u64) -> u64
@@ -255,8 +255,8 @@ pub fn asubu(rm: Vxrm, sew: u64, a: u64, b: u64) -> u64
     requires { ⌜ Width sew × ((2 ≤ sew) × ((a < 2 ^ sew) × (b < 2 ^ sew))) ⌝ }
     ensures { λ r. ⌜ r ≡ vasubu rm sew a b ⌝ }
 {
-    let m = number::ones(sew);
-    number::add(sew, average(rm, sew, a, m - b, 1), m / 2 + 1)
+    let m = width::ones(sew);
+    width::add(sew, average(rm, sew, a, m - b, 1), m / 2 + 1)
 }
 
 // A signed value plus 2^(sew - 1) is not negative. Two of them add 2^sew.
@@ -264,10 +264,10 @@ pub fn aadd(rm: Vxrm, sew: u64, a: u64, b: u64) -> u64
     requires { ⌜ Width sew × ((2 ≤ sew) × ((a < 2 ^ sew) × (b < 2 ^ sew))) ⌝ }
     ensures { λ r. ⌜ r ≡ vaadd rm sew a b ⌝ }
 {
-    let h = number::ones(sew) / 2 + 1;
-    let x = number::add(sew, a, h);
-    let y = number::add(sew, b, h);
-    number::add(sew, average(rm, sew, x, y, 0), h)
+    let h = width::ones(sew) / 2 + 1;
+    let x = width::add(sew, a, h);
+    let y = width::add(sew, b, h);
+    width::add(sew, average(rm, sew, x, y, 0), h)
 }
 
 // a - b: b's complement, 2^sew - 1 - b, has the signed value -1 - b.
@@ -275,26 +275,26 @@ pub fn asub(rm: Vxrm, sew: u64, a: u64, b: u64) -> u64
     requires { ⌜ Width sew × ((2 ≤ sew) × ((a < 2 ^ sew) × (b < 2 ^ sew))) ⌝ }
     ensures { λ r. ⌜ r ≡ vasub rm sew a b ⌝ }
 {
-    let m = number::ones(sew);
+    let m = width::ones(sew);
     let h = m / 2 + 1;
-    let x = number::add(sew, a, h);
-    let y = number::add(sew, m - b, h);
-    number::add(sew, average(rm, sew, x, y, 1), h)
+    let x = width::add(sew, a, h);
+    let y = width::add(sew, m - b, h);
+    width::add(sew, average(rm, sew, x, y, 1), h)
 }
 
 pub fn ssrl(rm: Vxrm, sew: u64, a: u64, b: u64) -> u64
     requires { ⌜ Width sew ⌝ }
     ensures { λ r. ⌜ r ≡ vssrl rm sew a b ⌝ }
 {
-    number::low(sew, round_unsigned(rm, a, b % sew))
+    width::low(sew, round_unsigned(rm, a, b % sew))
 }
 
 pub fn ssra(rm: Vxrm, sew: u64, a: u64, b: u64) -> u64
     requires { ⌜ Width sew × (a < 2 ^ sew) ⌝ }
     ensures { λ r. ⌜ r ≡ vssra rm sew a b ⌝ }
 {
-    let z = number::to_signed(sew, a);
-    number::from_signed(sew, round_signed(rm, z, b % sew))
+    let z = width::to_signed(sew, a);
+    width::from_signed(sew, round_signed(rm, z, b % sew))
 }
 
 pub fn nclipu(rm: Vxrm, sew: u64, a: u64, b: u64) -> Element
@@ -308,7 +308,7 @@ pub fn nclip(rm: Vxrm, sew: u64, a: u64, b: u64) -> Element
     requires { ⌜ Width (2 * sew) × (a < 2 ^ (2 * sew)) ⌝ }
     ensures { λ r. ⌜ r ≡ vnclip rm sew a b ⌝ }
 {
-    let z = number::to_signed(2 * sew, a);
+    let z = width::to_signed(2 * sew, a);
     clip_signed(sew, round_signed(rm, z, b % (2 * sew)))
 }
 
@@ -316,7 +316,7 @@ pub fn smul(rm: Vxrm, sew: u64, a: u64, b: u64) -> Element
     requires { ⌜ Width (2 * sew) × ((a < 2 ^ sew) × (b < 2 ^ sew)) ⌝ }
     ensures { λ r. ⌜ r ≡ vsmul rm sew a b ⌝ }
 {
-    let x = number::to_signed(sew, a);
-    let y = number::to_signed(sew, b);
+    let x = width::to_signed(sew, a);
+    let y = width::to_signed(sew, b);
     clip_signed(sew, round_signed(rm, x * y, sew - 1))
 }

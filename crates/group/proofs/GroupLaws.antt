@@ -2,28 +2,15 @@
 use Prim.Native.Nat.{ℕ, zero, suc, _+_, _*_, _/_, _%_, _^_, _≤_, _<_, max}
 use mathlib.Core.Path.{_≡_, refl, ap, _∙_}
 use mathlib.Core.Logic.{_⊎_, inl, inr, ⊎-elim}
-use mathlib.Core.Bool.{Bool, true, false, _&&_, _||_, and-eq-true-iff}
+use mathlib.Core.Bool.{true, _&&_}
 use native.Mathlib.Omega.{arith}
 use native.Mathlib.Nat.{div-add-mod', mul-le-mul-right, lt-of-mul-lt-mul-right}
 use native.Mathlib.Decide.{decLt}
 use lib.Dec.{ltb, leb, eqb}
 use lib.Pow.{pow-add, shl-shr}
-use borrow.Author.Tests.{leb-true, ltb-true, eqb-true}
+use Rattle.laws.proofs.Apart.{or-cases, apart}
 use Rattle.group.specs.declared.Group.{Group}
 use Rattle.group.specs.Group.{emul8Of, registersOf, placedOf, apartOf, lowestOf, mayOverlapOf}
-
--- ---- tests taken apart
-and-left : (p q : Bool) → (p && q) ≡ true → p ≡ true
-and-left p q e = and-eq-true-iff p q .0 e .0
-
-and-right : (p q : Bool) → (p && q) ≡ true → q ≡ true
-and-right p q e = and-eq-true-iff p q .0 e .1
-
-or-cases : (p q : Bool) → (p || q) ≡ true → (p ≡ true) ⊎ (q ≡ true)
-or-cases true q e = inl e
-or-cases false q e = inr e
-
-ruleset apart = (and-left, and-right, leb-true, ltb-true, eqb-true)
 
 pub record Placed (elen : ℕ) (g : Group) : Type 0 where
   pub eew-low : 8 ≤ g .eew

@@ -1,20 +1,16 @@
 -- Shifts at a width.
 use mathlib.Core.Path.{_≡_, ap, _∙_}
 use Prim.Native.Nat.{ℕ, _%_, _^_, _<_}
-use native.Mathlib.Nat.{mod-lt}
 use native.Mathlib.Omega.{arith}
 use lib.IntN.{ℤ, pos}
 use lib.Signed.{mag, shrZ}
 use mir.Syntax.{w64}
 use mir.Val.{SFits, toZ, ofZ}
-use Rattle.number.specs.Width.{Width, signed, wrap}
-use Rattle.number.proofs.LowBits.{low-low}
-use Rattle.number.proofs.SignedLaws.{in-range, shr-back}
+use Rattle.width.specs.Width.{Width, signed, wrap}
+use Rattle.width.proofs.LowBits.{low-low, amount-lt}
+use Rattle.width.proofs.SignedLaws.{in-range, shr-back}
 
--- an amount below a width is one that a shift of 64 bits takes, also as an i64
-pub amount-lt : (b w : ℕ) → Width w → b % w < 64
-amount-lt b w h = omega (arith, mod-lt b (h .some))
-
+-- an amount below a width as an i64
 pub amount-fits : (b w : ℕ) → Width w → SFits w64 (pos (b % w))
 amount-fits b w h = record { sfits = omega (arith, amount-lt b w h) }
 

@@ -8,9 +8,9 @@ use lib.Signed.{mag}
 use mir.Syntax.{w64}
 use mir.Val.{toZ, ofZ}
 use mir.Facts.{toZ-ofZ}
-use Rattle.number.specs.Width.{signed, wrap}
-use Rattle.number.proofs.Diff.{IsDiff, is-diff, Wrapped, wrapped, add-diff, neg-diff, wrap-cong, wrap-diff}
-use Rattle.number.proofs.SignedLaws.{wrap-signed, in-range}
+use Rattle.width.specs.Width.{signed, wrap}
+use Rattle.width.proofs.Diff.{IsDiff, is-diff, Wrapped, wrapped, add-diff, neg-diff, wrap-cong, wrap-diff}
+use Rattle.width.proofs.SignedLaws.{wrap-signed, in-range}
 
 -- an integer differs from its low w bits by a multiple of 2 ^ w
 record Residue (w : ℕ) (z : ℤ) : Type 0 where

@@ -11,9 +11,9 @@ use lib.Signed.{mag, ltZ, leZ}
 use borrow.Author.Tests.{le-leb, lt-leb}
 use mir.Syntax.{w64}
 use mir.Val.{toZ, ofZ}
-use Rattle.number.specs.Width.{signed, flag}
-use Rattle.number.proofs.Diff.{leZ-is}
-use Rattle.number.proofs.SignedLaws.{in-range, lt-back}
+use Rattle.width.specs.Width.{signed, flag}
+use Rattle.width.proofs.Diff.{leZ-is}
+use Rattle.width.proofs.SignedLaws.{in-range, lt-back}
 
 -- the order of two elements read as i64
 pub less-is : (w a b s t r : ℕ) (x y : ℤ) → r ≡ cond (ltZ (toZ w64 (ofZ w64 x)) (toZ w64 (ofZ w64 y))) s t → x ≡ signed w a → y ≡ signed w b → mag x < 2 ^ 63 → mag y < 2 ^ 63 → r ≡ cond (ltZ (signed w a) (signed w b)) s t

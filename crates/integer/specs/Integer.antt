@@ -6,7 +6,7 @@ use lib.Signed.{shrZ, ltZ, leZ}
 use lib.Bits.{bitAnd, bitOr, bitXor}
 use lib.Dec.{ltb, leb, eqb}
 use mathlib.Core.Bool.{cond, not}
-use Rattle.number.specs.Width.{signed, wrap, flag}
+use Rattle.width.specs.Width.{signed, wrap, flag}
 
 -- ---- 12.1 Vector Single-Width Integer Add and Subtract: sums and differences wrap around
 

@@ -2,7 +2,7 @@
 use Prim.Native.Nat.{ℕ}
 use lib.Dec.{eqb}
 use mathlib.Core.Bool.{Bool, not, _&&_, _||_, Bool·beq}
-use Rattle.number.specs.Width.{flag}
+use Rattle.width.specs.Width.{flag}
 
 -- whether a mask bit is set
 abbrev pub isSet : ℕ → Bool

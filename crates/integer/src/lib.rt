@@ -4,7 +4,7 @@ ghost use mathlib.Core.Path.{_≡_};
 ghost use Prim.Native.Nat.{_*_, _/_, _%_, _<_, _≤_, _^_};
 ghost use mathlib.Core.Bool.{cond};
 ghost use lib.Signed.{ltZ, shrZ};
-ghost use Rattle.number.specs.Width.{Width, signed, wrap, flag};
+ghost use Rattle.width.specs.Width.{Width, signed, wrap, flag};
 ghost use Rattle.integer.specs.Integer.{vadd, vsub, vrsub, vwaddu, vwsubu, vwadd, vwsub, vwadd-w, vwsub-w, vzext, vsext, vadc, vmadc, vsbc, vmsbc, vand, vor, vxor, vsll, vsrl, vsra, vnsrl, vnsra, vmseq, vmsne, vmsltu, vmslt, vmsleu, vmsle, vmsgtu, vmsgt, vminu, vmin, vmaxu, vmax, vmerge, vmv};
 
 pub mod mask;
@@ -15,21 +15,21 @@ pub fn add(sew: u64, a: u64, b: u64) -> u64
     requires { ⌜ Width sew ⌝ }
     ensures { λ r. ⌜ r ≡ vadd sew a b ⌝ }
 {
-    number::add(sew, a, b)
+    width::add(sew, a, b)
 }
 
 pub fn sub(sew: u64, a: u64, b: u64) -> u64
     requires { ⌜ Width sew ⌝ }
     ensures { λ r. ⌜ r ≡ vsub sew a b ⌝ }
 {
-    number::sub(sew, a, b)
+    width::sub(sew, a, b)
 }
 
 pub fn rsub(sew: u64, a: u64, b: u64) -> u64
     requires { ⌜ Width sew ⌝ }
     ensures { λ r. ⌜ r ≡ vrsub sew a b ⌝ }
 {
-    number::sub(sew, b, a)
+    width::sub(sew, b, a)
 }
 
 // ---- 12.2
@@ -38,14 +38,14 @@ pub fn waddu(sew: u64, a: u64, b: u64) -> u64
     requires { ⌜ Width (2 * sew) ⌝ }
     ensures { λ r. ⌜ r ≡ vwaddu sew a b ⌝ }
 {
-    number::add(2 * sew, a, b)
+    width::add(2 * sew, a, b)
 }
 
 pub fn wsubu(sew: u64, a: u64, b: u64) -> u64
     requires { ⌜ Width (2 * sew) ⌝ }
     ensures { λ r. ⌜ r ≡ vwsubu sew a b ⌝ }
 {
-    number::sub(2 * sew, a, b)
+    width::sub(2 * sew, a, b)
 }
 
 // The `from` bits of x sign-extended to `to` bits.
@@ -53,7 +53,7 @@ pub fn extend(from: u64, to: u64, x: u64) -> u64
     requires { ⌜ Width from × (Width to × (x < 2 ^ from)) ⌝ }
     ensures { λ r. ⌜ r ≡ wrap to (signed from x) ⌝ }
 {
-    number::from_signed(to, number::to_signed(from, x))
+    width::from_signed(to, width::to_signed(from, x))
 }
 
 pub fn wadd(sew: u64, a: u64, b: u64) -> u64
@@ -61,7 +61,7 @@ pub fn wadd(sew: u64, a: u64, b: u64) -> u64
     ensures { λ r. ⌜ r ≡ vwadd sew a b ⌝ }
 {
     let wide = 2 * sew;
-    number::add(wide, extend(sew, wide, a), extend(sew, wide, b))
+    width::add(wide, extend(sew, wide, a), extend(sew, wide, b))
 }
 
 pub fn wsub(sew: u64, a: u64, b: u64) -> u64
@@ -69,7 +69,7 @@ pub fn wsub(sew: u64, a: u64, b: u64) -> u64
     ensures { λ r. ⌜ r ≡ vwsub sew a b ⌝ }
 {
     let wide = 2 * sew;
-    number::sub(wide, extend(sew, wide, a), extend(sew, wide, b))
+    width::sub(wide, extend(sew, wide, a), extend(sew, wide, b))
 }
 
 // a has 2 * sew bits already.
@@ -78,7 +78,7 @@ pub fn wadd_w(sew: u64, a: u64, b: u64) -> u64
     ensures { λ r. ⌜ r ≡ vwadd-w sew a b ⌝ }
 {
     let wide = 2 * sew;
-    number::add(wide, a, extend(sew, wide, b))
+    width::add(wide, a, extend(sew, wide, b))
 }
 
 pub fn wsub_w(sew: u64, a: u64, b: u64) -> u64
@@ -86,7 +86,7 @@ pub fn wsub_w(sew: u64, a: u64, b: u64) -> u64
     ensures { λ r. ⌜ r ≡ vwsub-w sew a b ⌝ }
 {
     let wide = 2 * sew;
-    number::sub(wide, a, extend(sew, wide, b))
+    width::sub(wide, a, extend(sew, wide, b))
 }
 
 // ---- 12.3
@@ -110,7 +110,7 @@ pub fn adc(sew: u64, a: u64, b: u64, c: u64) -> u64
     requires { ⌜ Width sew ⌝ }
     ensures { λ r. ⌜ r ≡ vadc sew a b c ⌝ }
 {
-    number::add(sew, number::add(sew, a, b), c)
+    width::add(sew, width::add(sew, a, b), c)
 }
 
 // a + b + c carries out where what a leaves to all ones is less than b + c.
@@ -118,14 +118,14 @@ pub fn madc(sew: u64, a: u64, b: u64, c: u64) -> u64
     requires { ⌜ Width sew × ((a < 2 ^ sew) × ((b < 2 ^ sew) × (c < 2))) ⌝ }
     ensures { λ r. ⌜ r ≡ vmadc sew a b c ⌝ }
 {
-    msbc(sew, number::ones(sew) - a, b, c)
+    msbc(sew, width::ones(sew) - a, b, c)
 }
 
 pub fn sbc(sew: u64, a: u64, b: u64, c: u64) -> u64
     requires { ⌜ Width sew ⌝ }
     ensures { λ r. ⌜ r ≡ vsbc sew a b c ⌝ }
 {
-    number::sub(sew, a, number::add(sew, b, c))
+    width::sub(sew, a, width::add(sew, b, c))
 }
 
 // a < b + c with no sum, since b + 1 may not fit.
@@ -167,15 +167,15 @@ fn shift_signed(v: u64, w: u64, a: u64, b: u64) -> u64
     requires { ⌜ Width v × (Width w × (a < 2 ^ v)) ⌝ }
     ensures { λ r. ⌜ r ≡ wrap w (shrZ (signed v a) (2 ^ (b % v))) ⌝ }
 {
-    let x = number::to_signed(v, a);
-    number::from_signed(w, x >> (b % v))
+    let x = width::to_signed(v, a);
+    width::from_signed(w, x >> (b % v))
 }
 
 pub fn sll(sew: u64, a: u64, b: u64) -> u64
     requires { ⌜ Width sew ⌝ }
     ensures { λ r. ⌜ r ≡ vsll sew a b ⌝ }
 {
-    number::low(sew, a << (b % sew))
+    width::low(sew, a << (b % sew))
 }
 
 pub fn srl(sew: u64, a: u64, b: u64) -> u64
@@ -198,7 +198,7 @@ pub fn nsrl(sew: u64, a: u64, b: u64) -> u64
     requires { ⌜ Width (2 * sew) ⌝ }
     ensures { λ r. ⌜ r ≡ vnsrl sew a b ⌝ }
 {
-    number::low(sew, a >> (b % (2 * sew)))
+    width::low(sew, a >> (b % (2 * sew)))
 }
 
 pub fn nsra(sew: u64, a: u64, b: u64) -> u64
@@ -229,7 +229,7 @@ fn choose_less(sew: u64, a: u64, b: u64, x: u64, y: u64) -> u64
     requires { ⌜ Width sew × ((a < 2 ^ sew) × (b < 2 ^ sew)) ⌝ }
     ensures { λ r. ⌜ r ≡ cond (ltZ (signed sew a) (signed sew b)) x y ⌝ }
 {
-    choose(number::to_signed(sew, a) < number::to_signed(sew, b), x, y)
+    choose(width::to_signed(sew, a) < width::to_signed(sew, b), x, y)
 }
 
 pub fn mseq(sew: u64, a: u64, b: u64) -> u64

@@ -5,8 +5,8 @@ use native.Mathlib.Omega.{arith}
 use native.Mathlib.Nat.{mod-lt, mod-add-mod, div-add-mod'}
 use lib.IntN.{ℤ, pos, negsuc, subℕ, _+ℤ_, _*ℤ_, *ℤ-comm}
 use lib.Pow.{pow-pos}
-use Rattle.number.specs.Width.{wrap}
-use Rattle.number.proofs.Diff.{wrap-is, wrap-cong}
+use Rattle.width.specs.Width.{wrap}
+use Rattle.width.proofs.Diff.{wrap-is, wrap-cong}
 
 pub add-is : (w n d p r : ℕ) → r ≡ (p + d) % 2 ^ w → p ≡ n % 2 ^ w → r ≡ (n + d) % 2 ^ w
 add-is w n d p r e f = e ∙ ap (λ (x : ℕ). (x + d) % 2 ^ w) f ∙ mod-add-mod n (2 ^ w) d

@@ -6,8 +6,8 @@ use lib.Signed.{mag}
 use mir.Syntax.{w64}
 use mir.Val.{SFits, toZ, ofZ}
 use mir.Facts.{toZ-ofZ}
-use Rattle.number.specs.Width.{signed, wrap}
-use Rattle.number.proofs.SignedLaws.{in-range}
+use Rattle.width.specs.Width.{signed, wrap}
+use Rattle.width.proofs.SignedLaws.{in-range}
 
 pub signed-read : (w a : ℕ) (x : ℤ) → x ≡ signed w a → mag x < 2 ^ 63 → toZ w64 (ofZ w64 x) ≡ signed w a
 signed-read w a x e h = toZ-ofZ (in-range h) ∙ e

@@ -11,9 +11,9 @@ use mir.Syntax.{w64}
 use mir.Val.{Fits, SFits, toZ, ofZ}
 use mir.Facts.{toZ-pos}
 use Rattle.multiply.proofs.OperandLaws.{signed-read, op-is}
-use Rattle.number.specs.Width.{Width, signed, wrap}
-use Rattle.number.proofs.SignedLaws.{mul-fits, signed-abs, shr-back}
-use Rattle.number.proofs.LowBits.{mul-lt}
+use Rattle.width.specs.Width.{Width, signed, wrap}
+use Rattle.width.proofs.SignedLaws.{mul-fits, signed-abs, shr-back}
+use Rattle.width.proofs.LowBits.{mul-lt}
 
 pub unsigned-fits : (w a b : ℕ) → Width (2 * w) → a < 2 ^ w → b < 2 ^ w → Fits w64 (a * b)
 unsigned-fits w a b s h l = record { fits = lt-of-lt-of-le (mul-lt w w h l) (pow-mono {j = 64} (omega arith)) }

@@ -5,7 +5,7 @@ use lib.IntN.{pos, subℕ, _+ℤ_, _*ℤ_}
 use lib.Signed.{quotZ, remZ, shrZ}
 use lib.Dec.{eqb}
 use mathlib.Core.Bool.{cond}
-use Rattle.number.specs.Width.{signed, wrap}
+use Rattle.width.specs.Width.{signed, wrap}
 
 -- ---- 12.10 Vector Single-Width Integer Multiply Instructions
 

@@ -2,7 +2,7 @@
 // place), `d` the destination's element before the instruction.
 ghost use mathlib.Core.Path.{_≡_};
 ghost use Prim.Native.Nat.{_*_, _<_, _≤_, _^_};
-ghost use Rattle.number.specs.Width.{Width};
+ghost use Rattle.width.specs.Width.{Width};
 ghost use Rattle.multiply.specs.Multiply.{vmul, vmulh, vmulhu, vmulhsu, vdivu, vremu, vdiv, vrem, vwmul, vwmulu, vwmulsu, vmacc, vnmsac, vmadd, vnmsub, vwmaccu, vwmacc, vwmaccsu, vwmaccus};
 
 // ---- 12.10
@@ -11,16 +11,16 @@ pub fn mul(sew: u64, a: u64, b: u64) -> u64
     requires { ⌜ Width sew ⌝ }
     ensures { λ r. ⌜ r ≡ vmul sew a b ⌝ }
 {
-    number::mul(sew, a, b)
+    width::mul(sew, a, b)
 }
 
 pub fn mulh(sew: u64, a: u64, b: u64) -> u64
     requires { ⌜ Width (2 * sew) × ((a < 2 ^ sew) × (b < 2 ^ sew)) ⌝ }
     ensures { λ r. ⌜ r ≡ vmulh sew a b ⌝ }
 {
-    let x = number::to_signed(sew, a);
-    let y = number::to_signed(sew, b);
-    number::from_signed(sew, (x * y) >> (sew as i64))
+    let x = width::to_signed(sew, a);
+    let y = width::to_signed(sew, b);
+    width::from_signed(sew, (x * y) >> (sew as i64))
 }
 
 pub fn mulhu(sew: u64, a: u64, b: u64) -> u64
@@ -34,8 +34,8 @@ pub fn mulhsu(sew: u64, a: u64, b: u64) -> u64
     requires { ⌜ Width (2 * sew) × ((a < 2 ^ sew) × (b < 2 ^ sew)) ⌝ }
     ensures { λ r. ⌜ r ≡ vmulhsu sew a b ⌝ }
 {
-    let x = number::to_signed(sew, a);
-    number::from_signed(sew, (x * (b as i64)) >> (sew as i64))
+    let x = width::to_signed(sew, a);
+    width::from_signed(sew, (x * (b as i64)) >> (sew as i64))
 }
 
 // ---- 12.11
@@ -44,7 +44,7 @@ pub fn divu(sew: u64, a: u64, b: u64) -> u64
     requires { ⌜ Width sew ⌝ }
     ensures { λ r. ⌜ r ≡ vdivu sew a b ⌝ }
 {
-    if b == 0 { number::ones(sew) } else { a / b }
+    if b == 0 { width::ones(sew) } else { a / b }
 }
 
 pub fn remu(sew: u64, a: u64, b: u64) -> u64
@@ -58,32 +58,32 @@ pub fn div(sew: u64, a: u64, b: u64) -> u64
     requires { ⌜ Width sew × ((a < 2 ^ sew) × (b < 2 ^ sew)) ⌝ }
     ensures { λ r. ⌜ r ≡ vdiv sew a b ⌝ }
 {
-    let m = number::ones(sew);
+    let m = width::ones(sew);
     if b == 0 {
         return m;
     }
     if b == m {
-        return number::sub(sew, 0, a);
+        return width::sub(sew, 0, a);
     }
-    let x = number::to_signed(sew, a);
-    let y = number::to_signed(sew, b);
-    number::from_signed(sew, x / y)
+    let x = width::to_signed(sew, a);
+    let y = width::to_signed(sew, b);
+    width::from_signed(sew, x / y)
 }
 
 pub fn rem(sew: u64, a: u64, b: u64) -> u64
     requires { ⌜ Width sew × ((a < 2 ^ sew) × (b < 2 ^ sew)) ⌝ }
     ensures { λ r. ⌜ r ≡ vrem sew a b ⌝ }
 {
-    let m = number::ones(sew);
+    let m = width::ones(sew);
     if b == 0 {
         return a;
     }
     if b == m {
         return 0;
     }
-    let x = number::to_signed(sew, a);
-    let y = number::to_signed(sew, b);
-    number::from_signed(sew, x % y)
+    let x = width::to_signed(sew, a);
+    let y = width::to_signed(sew, b);
+    width::from_signed(sew, x % y)
 }
 
 // ---- 12.12
@@ -92,24 +92,24 @@ pub fn wmul(sew: u64, a: u64, b: u64) -> u64
     requires { ⌜ Width (2 * sew) × ((a < 2 ^ sew) × (b < 2 ^ sew)) ⌝ }
     ensures { λ r. ⌜ r ≡ vwmul sew a b ⌝ }
 {
-    let x = number::to_signed(sew, a);
-    let y = number::to_signed(sew, b);
-    number::from_signed(2 * sew, x * y)
+    let x = width::to_signed(sew, a);
+    let y = width::to_signed(sew, b);
+    width::from_signed(2 * sew, x * y)
 }
 
 pub fn wmulu(sew: u64, a: u64, b: u64) -> u64
     requires { ⌜ Width (2 * sew) ⌝ }
     ensures { λ r. ⌜ r ≡ vwmulu sew a b ⌝ }
 {
-    number::mul(2 * sew, a, b)
+    width::mul(2 * sew, a, b)
 }
 
 pub fn wmulsu(sew: u64, a: u64, b: u64) -> u64
     requires { ⌜ Width (2 * sew) × ((a < 2 ^ sew) × (b < 2 ^ sew)) ⌝ }
     ensures { λ r. ⌜ r ≡ vwmulsu sew a b ⌝ }
 {
-    let x = number::to_signed(sew, a);
-    number::from_signed(2 * sew, x * (b as i64))
+    let x = width::to_signed(sew, a);
+    width::from_signed(2 * sew, x * (b as i64))
 }
 
 // ---- 12.13
@@ -118,28 +118,28 @@ pub fn macc(sew: u64, a: u64, b: u64, d: u64) -> u64
     requires { ⌜ Width sew ⌝ }
     ensures { λ r. ⌜ r ≡ vmacc sew a b d ⌝ }
 {
-    number::add(sew, number::mul(sew, b, a), d)
+    width::add(sew, width::mul(sew, b, a), d)
 }
 
 pub fn nmsac(sew: u64, a: u64, b: u64, d: u64) -> u64
     requires { ⌜ Width sew ⌝ }
     ensures { λ r. ⌜ r ≡ vnmsac sew a b d ⌝ }
 {
-    number::sub(sew, d, number::mul(sew, b, a))
+    width::sub(sew, d, width::mul(sew, b, a))
 }
 
 pub fn madd(sew: u64, a: u64, b: u64, d: u64) -> u64
     requires { ⌜ Width sew ⌝ }
     ensures { λ r. ⌜ r ≡ vmadd sew a b d ⌝ }
 {
-    number::add(sew, number::mul(sew, b, d), a)
+    width::add(sew, width::mul(sew, b, d), a)
 }
 
 pub fn nmsub(sew: u64, a: u64, b: u64, d: u64) -> u64
     requires { ⌜ Width sew ⌝ }
     ensures { λ r. ⌜ r ≡ vnmsub sew a b d ⌝ }
 {
-    number::sub(sew, a, number::mul(sew, b, d))
+    width::sub(sew, a, width::mul(sew, b, d))
 }
 
 // ---- 12.14
@@ -148,21 +148,21 @@ pub fn wmaccu(sew: u64, a: u64, b: u64, d: u64) -> u64
     requires { ⌜ Width (2 * sew) ⌝ }
     ensures { λ r. ⌜ r ≡ vwmaccu sew a b d ⌝ }
 {
-    number::add(2 * sew, number::mul(2 * sew, b, a), d)
+    width::add(2 * sew, width::mul(2 * sew, b, a), d)
 }
 
 pub fn wmacc(sew: u64, a: u64, b: u64, d: u64) -> u64
     requires { ⌜ Width (2 * sew) × ((a < 2 ^ sew) × (b < 2 ^ sew)) ⌝ }
     ensures { λ r. ⌜ r ≡ vwmacc sew a b d ⌝ }
 {
-    number::add(2 * sew, wmul(sew, b, a), d)
+    width::add(2 * sew, wmul(sew, b, a), d)
 }
 
 pub fn wmaccsu(sew: u64, a: u64, b: u64, d: u64) -> u64
     requires { ⌜ Width (2 * sew) × ((a < 2 ^ sew) × (b < 2 ^ sew)) ⌝ }
     ensures { λ r. ⌜ r ≡ vwmaccsu sew a b d ⌝ }
 {
-    number::add(2 * sew, wmulsu(sew, b, a), d)
+    width::add(2 * sew, wmulsu(sew, b, a), d)
 }
 
 // b unsigned, a signed: the product of wmulsu(a, b), as products commute.
@@ -170,5 +170,5 @@ pub fn wmaccus(sew: u64, a: u64, b: u64, d: u64) -> u64
     requires { ⌜ Width (2 * sew) × ((a < 2 ^ sew) × (b < 2 ^ sew)) ⌝ }
     ensures { λ r. ⌜ r ≡ vwmaccus sew a b d ⌝ }
 {
-    number::add(2 * sew, wmulsu(sew, a, b), d)
+    width::add(2 * sew, wmulsu(sew, a, b), d)
 }

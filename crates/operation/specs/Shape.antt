@@ -8,6 +8,8 @@ use Rattle.operation.specs.declared.Size.the-variants.{Absent, Bit, Eigh
 use Rattle.operation.specs.declared.V0.{V0}
 use Rattle.operation.specs.declared.V0.the-variants.{Masks, Carry, MaybeCarry, Unused}
 use Rattle.operation.specs.declared.Shape.{Shape}
+use Rattle.operation.specs.declared.Form.{Form}
+use Rattle.operation.specs.declared.Form.the-variants.{SingleWidth, Shift, High, Widening, WideFirst, Narrowing, FromHalf, FromQuarter, FromEighth, Compare, AddCarry, CarryOut, Merge, Move, MultiplyAdd, WideningMultiplyAdd, MaskLogical}
 
 -- EEW of an operand at a SEW (section 6.2); mask elements have EEW 1
 abbrev pub eewOf : Size → ℕ → ℕ
@@ -29,182 +31,153 @@ isDouble Half = false
 isDouble Single = false
 isDouble Double = true
 
--- ---- the shapes that there are: vd = vs2 op vs1
+-- ---- the forms that there are: vd = vs2 op vs1
 
+abbrev pub shapeAt : Form → Shape
 -- SEW = SEW op SEW
-abbrev pub single : Shape
-single = record { vd = Single; vs2 = Single; vs1 = Single; accumulates = false; v0 = Masks; narrow = false; shift = false }
-
+shapeAt SingleWidth = record { vd = Single; vs2 = Single; vs1 = Single; accumulates = false; v0 = Masks; narrow = false; shift = false }
 -- the same, by an immediate that is not sign-extended
-abbrev pub shift : Shape
-shift = record { vd = Single; vs2 = Single; vs1 = Single; accumulates = false; v0 = Masks; narrow = false; shift = true }
-
+shapeAt Shift = record { vd = Single; vs2 = Single; vs1 = Single; accumulates = false; v0 = Masks; narrow = false; shift = true }
 -- the same, at SEW 8 to 32 alone
-abbrev pub high : Shape
-high = record { vd = Single; vs2 = Single; vs1 = Single; accumulates = false; v0 = Masks; narrow = true; shift = false }
-
+shapeAt High = record { vd = Single; vs2 = Single; vs1 = Single; accumulates = false; v0 = Masks; narrow = true; shift = false }
 -- 2*SEW = SEW op SEW (section 11.2)
-abbrev pub widening : Shape
-widening = record { vd = Double; vs2 = Single; vs1 = Single; accumulates = false; v0 = Masks; narrow = false; shift = false }
-
+shapeAt Widening = record { vd = Double; vs2 = Single; vs1 = Single; accumulates = false; v0 = Masks; narrow = false; shift = false }
 -- 2*SEW = 2*SEW op SEW
-abbrev pub wide : Shape
-wide = record { vd = Double; vs2 = Double; vs1 = Single; accumulates = false; v0 = Masks; narrow = false; shift = false }
-
+shapeAt WideFirst = record { vd = Double; vs2 = Double; vs1 = Single; accumulates = false; v0 = Masks; narrow = false; shift = false }
 -- SEW = 2*SEW op SEW (section 11.3), by an immediate that is not sign-extended
-abbrev pub narrowing : Shape
-narrowing = record { vd = Single; vs2 = Double; vs1 = Single; accumulates = false; v0 = Masks; narrow = false; shift = true }
-
+shapeAt Narrowing = record { vd = Single; vs2 = Double; vs1 = Single; accumulates = false; v0 = Masks; narrow = false; shift = true }
 -- SEW of SEW/2, SEW/4, SEW/8
-abbrev pub half : Shape
-half = record { vd = Single; vs2 = Half; vs1 = Absent; accumulates = false; v0 = Masks; narrow = false; shift = false }
-
-abbrev pub quarter : Shape
-quarter = record { vd = Single; vs2 = Quarter; vs1 = Absent; accumulates = false; v0 = Masks; narrow = false; shift = false }
-
-abbrev pub eighth : Shape
-eighth = record { vd = Single; vs2 = Eighth; vs1 = Absent; accumulates = false; v0 = Masks; narrow = false; shift = false }
-
+shapeAt FromHalf = record { vd = Single; vs2 = Half; vs1 = Absent; accumulates = false; v0 = Masks; narrow = false; shift = false }
+shapeAt FromQuarter = record { vd = Single; vs2 = Quarter; vs1 = Absent; accumulates = false; v0 = Masks; narrow = false; shift = false }
+shapeAt FromEighth = record { vd = Single; vs2 = Eighth; vs1 = Absent; accumulates = false; v0 = Masks; narrow = false; shift = false }
 -- mask = SEW op SEW
-abbrev pub compare : Shape
-compare = record { vd = Bit; vs2 = Single; vs1 = Single; accumulates = false; v0 = Masks; narrow = false; shift = false }
-
+shapeAt Compare = record { vd = Bit; vs2 = Single; vs1 = Single; accumulates = false; v0 = Masks; narrow = false; shift = false }
 -- SEW = SEW op SEW op carry
-abbrev pub carry : Shape
-carry = record { vd = Single; vs2 = Single; vs1 = Single; accumulates = false; v0 = Carry; narrow = false; shift = false }
-
+shapeAt AddCarry = record { vd = Single; vs2 = Single; vs1 = Single; accumulates = false; v0 = Carry; narrow = false; shift = false }
 -- mask = SEW op SEW op carry, if there is one
-abbrev pub carryOut : Shape
-carryOut = record { vd = Bit; vs2 = Single; vs1 = Single; accumulates = false; v0 = MaybeCarry; narrow = false; shift = false }
-
+shapeAt CarryOut = record { vd = Bit; vs2 = Single; vs1 = Single; accumulates = false; v0 = MaybeCarry; narrow = false; shift = false }
 -- SEW = v0 ? SEW : SEW
-abbrev pub merge : Shape
-merge = record { vd = Single; vs2 = Single; vs1 = Single; accumulates = false; v0 = Carry; narrow = false; shift = false }
-
+shapeAt Merge = record { vd = Single; vs2 = Single; vs1 = Single; accumulates = false; v0 = Carry; narrow = false; shift = false }
 -- SEW = SEW
-abbrev pub move : Shape
-move = record { vd = Single; vs2 = Absent; vs1 = Single; accumulates = false; v0 = Unused; narrow = false; shift = false }
-
+shapeAt Move = record { vd = Single; vs2 = Absent; vs1 = Single; accumulates = false; v0 = Unused; narrow = false; shift = false }
 -- SEW = SEW * SEW op SEW, one of them vd
-abbrev pub accumulate : Shape
-accumulate = record { vd = Single; vs2 = Single; vs1 = Single; accumulates = true; v0 = Masks; narrow = false; shift = false }
-
+shapeAt MultiplyAdd = record { vd = Single; vs2 = Single; vs1 = Single; accumulates = true; v0 = Masks; narrow = false; shift = false }
 -- 2*SEW = SEW * SEW op 2*SEW, the last vd
-abbrev pub wideAccumulate : Shape
-wideAccumulate = record { vd = Double; vs2 = Single; vs1 = Single; accumulates = true; v0 = Masks; narrow = false; shift = false }
-
+shapeAt WideningMultiplyAdd = record { vd = Double; vs2 = Single; vs1 = Single; accumulates = true; v0 = Masks; narrow = false; shift = false }
 -- mask = mask op mask
-abbrev pub mask : Shape
-mask = record { vd = Bit; vs2 = Bit; vs1 = Bit; accumulates = false; v0 = Unused; narrow = false; shift = false }
+shapeAt MaskLogical = record { vd = Bit; vs2 = Bit; vs1 = Bit; accumulates = false; v0 = Unused; narrow = false; shift = false }
 
--- ---- the table
+-- ---- the table: the form of each operation
+
+abbrev pub formOf : Op → Form
+-- 12.1
+formOf Vadd = SingleWidth
+formOf Vsub = SingleWidth
+formOf Vrsub = SingleWidth
+-- 12.2
+formOf Vwaddu = Widening
+formOf Vwadd = Widening
+formOf Vwsubu = Widening
+formOf Vwsub = Widening
+formOf VwadduW = WideFirst
+formOf VwaddW = WideFirst
+formOf VwsubuW = WideFirst
+formOf VwsubW = WideFirst
+-- 12.3
+formOf VzextVf2 = FromHalf
+formOf VsextVf2 = FromHalf
+formOf VzextVf4 = FromQuarter
+formOf VsextVf4 = FromQuarter
+formOf VzextVf8 = FromEighth
+formOf VsextVf8 = FromEighth
+-- 12.4
+formOf Vadc = AddCarry
+formOf Vsbc = AddCarry
+formOf Vmadc = CarryOut
+formOf Vmsbc = CarryOut
+-- 12.5
+formOf Vand = SingleWidth
+formOf Vor = SingleWidth
+formOf Vxor = SingleWidth
+-- 12.6
+formOf Vsll = Shift
+formOf Vsrl = Shift
+formOf Vsra = Shift
+-- 12.7
+formOf Vnsrl = Narrowing
+formOf Vnsra = Narrowing
+-- 12.8
+formOf Vmseq = Compare
+formOf Vmsne = Compare
+formOf Vmsltu = Compare
+formOf Vmslt = Compare
+formOf Vmsleu = Compare
+formOf Vmsle = Compare
+formOf Vmsgtu = Compare
+formOf Vmsgt = Compare
+-- 12.9
+formOf Vminu = SingleWidth
+formOf Vmin = SingleWidth
+formOf Vmaxu = SingleWidth
+formOf Vmax = SingleWidth
+-- 12.10
+formOf Vmul = SingleWidth
+formOf Vmulh = High
+formOf Vmulhu = High
+formOf Vmulhsu = High
+-- 12.11
+formOf Vdivu = SingleWidth
+formOf Vdiv = SingleWidth
+formOf Vremu = SingleWidth
+formOf Vrem = SingleWidth
+-- 12.12
+formOf Vwmul = Widening
+formOf Vwmulu = Widening
+formOf Vwmulsu = Widening
+-- 12.13
+formOf Vmacc = MultiplyAdd
+formOf Vnmsac = MultiplyAdd
+formOf Vmadd = MultiplyAdd
+formOf Vnmsub = MultiplyAdd
+-- 12.14
+formOf Vwmaccu = WideningMultiplyAdd
+formOf Vwmacc = WideningMultiplyAdd
+formOf Vwmaccsu = WideningMultiplyAdd
+formOf Vwmaccus = WideningMultiplyAdd
+-- 12.15
+formOf Vmerge = Merge
+-- 12.16
+formOf Vmv = Move
+-- 13.1
+formOf Vsaddu = SingleWidth
+formOf Vsadd = SingleWidth
+formOf Vssubu = SingleWidth
+formOf Vssub = SingleWidth
+-- 13.2
+formOf Vaaddu = SingleWidth
+formOf Vaadd = SingleWidth
+formOf Vasubu = SingleWidth
+formOf Vasub = SingleWidth
+-- 13.3
+formOf Vsmul = High
+-- 13.4
+formOf Vssrl = Shift
+formOf Vssra = Shift
+-- 13.5
+formOf Vnclipu = Narrowing
+formOf Vnclip = Narrowing
+-- 16.1
+formOf Vmand = MaskLogical
+formOf Vmnand = MaskLogical
+formOf Vmandn = MaskLogical
+formOf Vmxor = MaskLogical
+formOf Vmor = MaskLogical
+formOf Vmnor = MaskLogical
+formOf Vmorn = MaskLogical
+formOf Vmxnor = MaskLogical
 
 abbrev pub shapeOf : Op → Shape
--- 12.1
-shapeOf Vadd = single
-shapeOf Vsub = single
-shapeOf Vrsub = single
--- 12.2
-shapeOf Vwaddu = widening
-shapeOf Vwadd = widening
-shapeOf Vwsubu = widening
-shapeOf Vwsub = widening
-shapeOf VwadduW = wide
-shapeOf VwaddW = wide
-shapeOf VwsubuW = wide
-shapeOf VwsubW = wide
--- 12.3
-shapeOf VzextVf2 = half
-shapeOf VsextVf2 = half
-shapeOf VzextVf4 = quarter
-shapeOf VsextVf4 = quarter
-shapeOf VzextVf8 = eighth
-shapeOf VsextVf8 = eighth
--- 12.4
-shapeOf Vadc = carry
-shapeOf Vsbc = carry
-shapeOf Vmadc = carryOut
-shapeOf Vmsbc = carryOut
--- 12.5
-shapeOf Vand = single
-shapeOf Vor = single
-shapeOf Vxor = single
--- 12.6
-shapeOf Vsll = shift
-shapeOf Vsrl = shift
-shapeOf Vsra = shift
--- 12.7
-shapeOf Vnsrl = narrowing
-shapeOf Vnsra = narrowing
--- 12.8
-shapeOf Vmseq = compare
-shapeOf Vmsne = compare
-shapeOf Vmsltu = compare
-shapeOf Vmslt = compare
-shapeOf Vmsleu = compare
-shapeOf Vmsle = compare
-shapeOf Vmsgtu = compare
-shapeOf Vmsgt = compare
--- 12.9
-shapeOf Vminu = single
-shapeOf Vmin = single
-shapeOf Vmaxu = single
-shapeOf Vmax = single
--- 12.10
-shapeOf Vmul = single
-shapeOf Vmulh = high
-shapeOf Vmulhu = high
-shapeOf Vmulhsu = high
--- 12.11
-shapeOf Vdivu = single
-shapeOf Vdiv = single
-shapeOf Vremu = single
-shapeOf Vrem = single
--- 12.12
-shapeOf Vwmul = widening
-shapeOf Vwmulu = widening
-shapeOf Vwmulsu = widening
--- 12.13
-shapeOf Vmacc = accumulate
-shapeOf Vnmsac = accumulate
-shapeOf Vmadd = accumulate
-shapeOf Vnmsub = accumulate
--- 12.14
-shapeOf Vwmaccu = wideAccumulate
-shapeOf Vwmacc = wideAccumulate
-shapeOf Vwmaccsu = wideAccumulate
-shapeOf Vwmaccus = wideAccumulate
--- 12.15
-shapeOf Vmerge = merge
--- 12.16
-shapeOf Vmv = move
--- 13.1
-shapeOf Vsaddu = single
-shapeOf Vsadd = single
-shapeOf Vssubu = single
-shapeOf Vssub = single
--- 13.2
-shapeOf Vaaddu = single
-shapeOf Vaadd = single
-shapeOf Vasubu = single
-shapeOf Vasub = single
--- 13.3
-shapeOf Vsmul = high
--- 13.4
-shapeOf Vssrl = shift
-shapeOf Vssra = shift
--- 13.5
-shapeOf Vnclipu = narrowing
-shapeOf Vnclip = narrowing
--- 16.1
-shapeOf Vmand = mask
-shapeOf Vmnand = mask
-shapeOf Vmandn = mask
-shapeOf Vmxor = mask
-shapeOf Vmor = mask
-shapeOf Vmnor = mask
-shapeOf Vmorn = mask
-shapeOf Vmxnor = mask
+shapeOf op = shapeAt (formOf op)
 
 -- the largest SEW of an operation: 32 where an operand has 2 * SEW bits, and for the high products and vsmul (document 01)
 abbrev pub largestSew : Op → ℕ

@@ -1,7 +1,7 @@
 // The operations of sections 12, 13 and 16.1 of document 000 that work element by element, and the shape of each.
 ghost use mathlib.Core.Path.{_≡_};
 ghost use Prim.Native.Nat.{_≤_};
-ghost use Rattle.operation.specs.Shape.{eewOf, isDouble, shapeOf, largestSew};
+ghost use Rattle.operation.specs.Shape.{eewOf, isDouble, shapeAt, formOf, shapeOf, largestSew};
 
 pub enum Op {
     Vadd,
@@ -112,6 +112,42 @@ pub enum V0 {
     Unused,
 }
 
+// How the widths of an operation's operands go together.
+pub enum Form {
+    // SEW = SEW op SEW
+    SingleWidth,
+    // the same, by an immediate that is not sign-extended
+    Shift,
+    // the same, at SEW 8 to 32 alone
+    High,
+    // 2*SEW = SEW op SEW (section 11.2)
+    Widening,
+    // 2*SEW = 2*SEW op SEW
+    WideFirst,
+    // SEW = 2*SEW op SEW (section 11.3), by an immediate that is not sign-extended
+    Narrowing,
+    // SEW of SEW/2, SEW/4, SEW/8
+    FromHalf,
+    FromQuarter,
+    FromEighth,
+    // mask = SEW op SEW
+    Compare,
+    // SEW = SEW op SEW op carry
+    AddCarry,
+    // mask = SEW op SEW op carry, if there is one
+    CarryOut,
+    // SEW = v0 ? SEW : SEW
+    Merge,
+    // SEW = SEW
+    Move,
+    // SEW = SEW * SEW op SEW, one of them vd
+    MultiplyAdd,
+    // 2*SEW = SEW * SEW op 2*SEW, the last vd
+    WideningMultiplyAdd,
+    // mask = mask op mask
+    MaskLogical,
+}
+
 pub struct Shape {
     pub vd: Size,
     pub vs2: Size,
@@ -141,279 +177,260 @@ pub fn eew(size: Size, sew: u64) -> u64
     }
 }
 
-// SEW = SEW op SEW
-const SINGLE: Shape = Shape {
-    vd: Size::Single,
-    vs2: Size::Single,
-    vs1: Size::Single,
-    accumulates: false,
-    v0: V0::Masks,
-    narrow: false,
-    shift: false,
-};
+pub fn form_of(op: Op) -> Form
+    ensures { λ r. ⌜ r ≡ formOf op ⌝ }
+{
+    match op {
+        Op::Vadd => Form::SingleWidth,
+        Op::Vsub => Form::SingleWidth,
+        Op::Vrsub => Form::SingleWidth,
+        Op::Vwaddu => Form::Widening,
+        Op::Vwadd => Form::Widening,
+        Op::Vwsubu => Form::Widening,
+        Op::Vwsub => Form::Widening,
+        Op::VwadduW => Form::WideFirst,
+        Op::VwaddW => Form::WideFirst,
+        Op::VwsubuW => Form::WideFirst,
+        Op::VwsubW => Form::WideFirst,
+        Op::VzextVf2 => Form::FromHalf,
+        Op::VsextVf2 => Form::FromHalf,
+        Op::VzextVf4 => Form::FromQuarter,
+        Op::VsextVf4 => Form::FromQuarter,
+        Op::VzextVf8 => Form::FromEighth,
+        Op::VsextVf8 => Form::FromEighth,
+        Op::Vadc => Form::AddCarry,
+        Op::Vsbc => Form::AddCarry,
+        Op::Vmadc => Form::CarryOut,
+        Op::Vmsbc => Form::CarryOut,
+        Op::Vand => Form::SingleWidth,
+        Op::Vor => Form::SingleWidth,
+        Op::Vxor => Form::SingleWidth,
+        Op::Vsll => Form::Shift,
+        Op::Vsrl => Form::Shift,
+        Op::Vsra => Form::Shift,
+        Op::Vnsrl => Form::Narrowing,
+        Op::Vnsra => Form::Narrowing,
+        Op::Vmseq => Form::Compare,
+        Op::Vmsne => Form::Compare,
+        Op::Vmsltu => Form::Compare,
+        Op::Vmslt => Form::Compare,
+        Op::Vmsleu => Form::Compare,
+        Op::Vmsle => Form::Compare,
+        Op::Vmsgtu => Form::Compare,
+        Op::Vmsgt => Form::Compare,
+        Op::Vminu => Form::SingleWidth,
+        Op::Vmin => Form::SingleWidth,
+        Op::Vmaxu => Form::SingleWidth,
+        Op::Vmax => Form::SingleWidth,
+        Op::Vmul => Form::SingleWidth,
+        Op::Vmulh => Form::High,
+        Op::Vmulhu => Form::High,
+        Op::Vmulhsu => Form::High,
+        Op::Vdivu => Form::SingleWidth,
+        Op::Vdiv => Form::SingleWidth,
+        Op::Vremu => Form::SingleWidth,
+        Op::Vrem => Form::SingleWidth,
+        Op::Vwmul => Form::Widening,
+        Op::Vwmulu => Form::Widening,
+        Op::Vwmulsu => Form::Widening,
+        Op::Vmacc => Form::MultiplyAdd,
+        Op::Vnmsac => Form::MultiplyAdd,
+        Op::Vmadd => Form::MultiplyAdd,
+        Op::Vnmsub => Form::MultiplyAdd,
+        Op::Vwmaccu => Form::WideningMultiplyAdd,
+        Op::Vwmacc => Form::WideningMultiplyAdd,
+        Op::Vwmaccsu => Form::WideningMultiplyAdd,
+        Op::Vwmaccus => Form::WideningMultiplyAdd,
+        Op::Vmerge => Form::Merge,
+        Op::Vmv => Form::Move,
+        Op::Vsaddu => Form::SingleWidth,
+        Op::Vsadd => Form::SingleWidth,
+        Op::Vssubu => Form::SingleWidth,
+        Op::Vssub => Form::SingleWidth,
+        Op::Vaaddu => Form::SingleWidth,
+        Op::Vaadd => Form::SingleWidth,
+        Op::Vasubu => Form::SingleWidth,
+        Op::Vasub => Form::SingleWidth,
+        Op::Vsmul => Form::High,
+        Op::Vssrl => Form::Shift,
+        Op::Vssra => Form::Shift,
+        Op::Vnclipu => Form::Narrowing,
+        Op::Vnclip => Form::Narrowing,
+        Op::Vmand => Form::MaskLogical,
+        Op::Vmnand => Form::MaskLogical,
+        Op::Vmandn => Form::MaskLogical,
+        Op::Vmxor => Form::MaskLogical,
+        Op::Vmor => Form::MaskLogical,
+        Op::Vmnor => Form::MaskLogical,
+        Op::Vmorn => Form::MaskLogical,
+        Op::Vmxnor => Form::MaskLogical,
+    }
+}
 
-// the same, by an immediate that is not sign-extended
-const SHIFT: Shape = Shape {
-    vd: Size::Single,
-    vs2: Size::Single,
-    vs1: Size::Single,
-    accumulates: false,
-    v0: V0::Masks,
-    narrow: false,
-    shift: true,
-};
-
-// the same, at SEW 8 to 32 alone
-const HIGH: Shape = Shape {
-    vd: Size::Single,
-    vs2: Size::Single,
-    vs1: Size::Single,
-    accumulates: false,
-    v0: V0::Masks,
-    narrow: true,
-    shift: false,
-};
-
-// 2*SEW = SEW op SEW (section 11.2)
-const WIDENING: Shape = Shape {
-    vd: Size::Double,
-    vs2: Size::Single,
-    vs1: Size::Single,
-    accumulates: false,
-    v0: V0::Masks,
-    narrow: false,
-    shift: false,
-};
-
-// 2*SEW = 2*SEW op SEW
-const WIDE: Shape = Shape {
-    vd: Size::Double,
-    vs2: Size::Double,
-    vs1: Size::Single,
-    accumulates: false,
-    v0: V0::Masks,
-    narrow: false,
-    shift: false,
-};
-
-// SEW = 2*SEW op SEW (section 11.3), by an immediate that is not sign-extended
-const NARROWING: Shape = Shape {
-    vd: Size::Single,
-    vs2: Size::Double,
-    vs1: Size::Single,
-    accumulates: false,
-    v0: V0::Masks,
-    narrow: false,
-    shift: true,
-};
-
-// SEW of SEW/2, SEW/4, SEW/8
-const HALF: Shape = Shape {
-    vd: Size::Single,
-    vs2: Size::Half,
-    vs1: Size::Absent,
-    accumulates: false,
-    v0: V0::Masks,
-    narrow: false,
-    shift: false,
-};
-
-const QUARTER: Shape = Shape {
-    vd: Size::Single,
-    vs2: Size::Quarter,
-    vs1: Size::Absent,
-    accumulates: false,
-    v0: V0::Masks,
-    narrow: false,
-    shift: false,
-};
-
-const EIGHTH: Shape = Shape {
-    vd: Size::Single,
-    vs2: Size::Eighth,
-    vs1: Size::Absent,
-    accumulates: false,
-    v0: V0::Masks,
-    narrow: false,
-    shift: false,
-};
-
-// mask = SEW op SEW
-const COMPARE: Shape = Shape {
-    vd: Size::Bit,
-    vs2: Size::Single,
-    vs1: Size::Single,
-    accumulates: false,
-    v0: V0::Masks,
-    narrow: false,
-    shift: false,
-};
-
-// SEW = SEW op SEW op carry
-const CARRY: Shape = Shape {
-    vd: Size::Single,
-    vs2: Size::Single,
-    vs1: Size::Single,
-    accumulates: false,
-    v0: V0::Carry,
-    narrow: false,
-    shift: false,
-};
-
-// mask = SEW op SEW op carry, if there is one
-const CARRY_OUT: Shape = Shape {
-    vd: Size::Bit,
-    vs2: Size::Single,
-    vs1: Size::Single,
-    accumulates: false,
-    v0: V0::MaybeCarry,
-    narrow: false,
-    shift: false,
-};
-
-// SEW = v0 ? SEW : SEW
-const MERGE: Shape = Shape {
-    vd: Size::Single,
-    vs2: Size::Single,
-    vs1: Size::Single,
-    accumulates: false,
-    v0: V0::Carry,
-    narrow: false,
-    shift: false,
-};
-
-// SEW = SEW
-const MOVE: Shape = Shape {
-    vd: Size::Single,
-    vs2: Size::Absent,
-    vs1: Size::Single,
-    accumulates: false,
-    v0: V0::Unused,
-    narrow: false,
-    shift: false,
-};
-
-// SEW = SEW * SEW op SEW, one of them vd
-const ACCUMULATE: Shape = Shape {
-    vd: Size::Single,
-    vs2: Size::Single,
-    vs1: Size::Single,
-    accumulates: true,
-    v0: V0::Masks,
-    narrow: false,
-    shift: false,
-};
-
-// 2*SEW = SEW * SEW op 2*SEW, the last vd
-const WIDE_ACCUMULATE: Shape = Shape {
-    vd: Size::Double,
-    vs2: Size::Single,
-    vs1: Size::Single,
-    accumulates: true,
-    v0: V0::Masks,
-    narrow: false,
-    shift: false,
-};
-
-// mask = mask op mask
-const MASK: Shape = Shape {
-    vd: Size::Bit,
-    vs2: Size::Bit,
-    vs1: Size::Bit,
-    accumulates: false,
-    v0: V0::Unused,
-    narrow: false,
-    shift: false,
-};
+pub fn shape_at(form: Form) -> Shape
+    ensures { λ r. ⌜ r ≡ shapeAt form ⌝ }
+{
+    match form {
+        Form::SingleWidth => Shape {
+            vd: Size::Single,
+            vs2: Size::Single,
+            vs1: Size::Single,
+            accumulates: false,
+            v0: V0::Masks,
+            narrow: false,
+            shift: false,
+        },
+        Form::Shift => Shape {
+            vd: Size::Single,
+            vs2: Size::Single,
+            vs1: Size::Single,
+            accumulates: false,
+            v0: V0::Masks,
+            narrow: false,
+            shift: true,
+        },
+        Form::High => Shape {
+            vd: Size::Single,
+            vs2: Size::Single,
+            vs1: Size::Single,
+            accumulates: false,
+            v0: V0::Masks,
+            narrow: true,
+            shift: false,
+        },
+        Form::Widening => Shape {
+            vd: Size::Double,
+            vs2: Size::Single,
+            vs1: Size::Single,
+            accumulates: false,
+            v0: V0::Masks,
+            narrow: false,
+            shift: false,
+        },
+        Form::WideFirst => Shape {
+            vd: Size::Double,
+            vs2: Size::Double,
+            vs1: Size::Single,
+            accumulates: false,
+            v0: V0::Masks,
+            narrow: false,
+            shift: false,
+        },
+        Form::Narrowing => Shape {
+            vd: Size::Single,
+            vs2: Size::Double,
+            vs1: Size::Single,
+            accumulates: false,
+            v0: V0::Masks,
+            narrow: false,
+            shift: true,
+        },
+        Form::FromHalf => Shape {
+            vd: Size::Single,
+            vs2: Size::Half,
+            vs1: Size::Absent,
+            accumulates: false,
+            v0: V0::Masks,
+            narrow: false,
+            shift: false,
+        },
+        Form::FromQuarter => Shape {
+            vd: Size::Single,
+            vs2: Size::Quarter,
+            vs1: Size::Absent,
+            accumulates: false,
+            v0: V0::Masks,
+            narrow: false,
+            shift: false,
+        },
+        Form::FromEighth => Shape {
+            vd: Size::Single,
+            vs2: Size::Eighth,
+            vs1: Size::Absent,
+            accumulates: false,
+            v0: V0::Masks,
+            narrow: false,
+            shift: false,
+        },
+        Form::Compare => Shape {
+            vd: Size::Bit,
+            vs2: Size::Single,
+            vs1: Size::Single,
+            accumulates: false,
+            v0: V0::Masks,
+            narrow: false,
+            shift: false,
+        },
+        Form::AddCarry => Shape {
+            vd: Size::Single,
+            vs2: Size::Single,
+            vs1: Size::Single,
+            accumulates: false,
+            v0: V0::Carry,
+            narrow: false,
+            shift: false,
+        },
+        Form::CarryOut => Shape {
+            vd: Size::Bit,
+            vs2: Size::Single,
+            vs1: Size::Single,
+            accumulates: false,
+            v0: V0::MaybeCarry,
+            narrow: false,
+            shift: false,
+        },
+        Form::Merge => Shape {
+            vd: Size::Single,
+            vs2: Size::Single,
+            vs1: Size::Single,
+            accumulates: false,
+            v0: V0::Carry,
+            narrow: false,
+            shift: false,
+        },
+        Form::Move => Shape {
+            vd: Size::Single,
+            vs2: Size::Absent,
+            vs1: Size::Single,
+            accumulates: false,
+            v0: V0::Unused,
+            narrow: false,
+            shift: false,
+        },
+        Form::MultiplyAdd => Shape {
+            vd: Size::Single,
+            vs2: Size::Single,
+            vs1: Size::Single,
+            accumulates: true,
+            v0: V0::Masks,
+            narrow: false,
+            shift: false,
+        },
+        Form::WideningMultiplyAdd => Shape {
+            vd: Size::Double,
+            vs2: Size::Single,
+            vs1: Size::Single,
+            accumulates: true,
+            v0: V0::Masks,
+            narrow: false,
+            shift: false,
+        },
+        Form::MaskLogical => Shape {
+            vd: Size::Bit,
+            vs2: Size::Bit,
+            vs1: Size::Bit,
+            accumulates: false,
+            v0: V0::Unused,
+            narrow: false,
+            shift: false,
+        },
+    }
+}
 
 pub fn shape_of(op: Op) -> Shape
     ensures { λ r. ⌜ r ≡ shapeOf op ⌝ }
 {
-    match op {
-        Op::Vadd => SINGLE,
-        Op::Vsub => SINGLE,
-        Op::Vrsub => SINGLE,
-        Op::Vwaddu => WIDENING,
-        Op::Vwadd => WIDENING,
-        Op::Vwsubu => WIDENING,
-        Op::Vwsub => WIDENING,
-        Op::VwadduW => WIDE,
-        Op::VwaddW => WIDE,
-        Op::VwsubuW => WIDE,
-        Op::VwsubW => WIDE,
-        Op::VzextVf2 => HALF,
-        Op::VsextVf2 => HALF,
-        Op::VzextVf4 => QUARTER,
-        Op::VsextVf4 => QUARTER,
-        Op::VzextVf8 => EIGHTH,
-        Op::VsextVf8 => EIGHTH,
-        Op::Vadc => CARRY,
-        Op::Vsbc => CARRY,
-        Op::Vmadc => CARRY_OUT,
-        Op::Vmsbc => CARRY_OUT,
-        Op::Vand => SINGLE,
-        Op::Vor => SINGLE,
-        Op::Vxor => SINGLE,
-        Op::Vsll => SHIFT,
-        Op::Vsrl => SHIFT,
-        Op::Vsra => SHIFT,
-        Op::Vnsrl => NARROWING,
-        Op::Vnsra => NARROWING,
-        Op::Vmseq => COMPARE,
-        Op::Vmsne => COMPARE,
-        Op::Vmsltu => COMPARE,
-        Op::Vmslt => COMPARE,
-        Op::Vmsleu => COMPARE,
-        Op::Vmsle => COMPARE,
-        Op::Vmsgtu => COMPARE,
-        Op::Vmsgt => COMPARE,
-        Op::Vminu => SINGLE,
-        Op::Vmin => SINGLE,
-        Op::Vmaxu => SINGLE,
-        Op::Vmax => SINGLE,
-        Op::Vmul => SINGLE,
-        Op::Vmulh => HIGH,
-        Op::Vmulhu => HIGH,
-        Op::Vmulhsu => HIGH,
-        Op::Vdivu => SINGLE,
-        Op::Vdiv => SINGLE,
-        Op::Vremu => SINGLE,
-        Op::Vrem => SINGLE,
-        Op::Vwmul => WIDENING,
-        Op::Vwmulu => WIDENING,
-        Op::Vwmulsu => WIDENING,
-        Op::Vmacc => ACCUMULATE,
-        Op::Vnmsac => ACCUMULATE,
-        Op::Vmadd => ACCUMULATE,
-        Op::Vnmsub => ACCUMULATE,
-        Op::Vwmaccu => WIDE_ACCUMULATE,
-        Op::Vwmacc => WIDE_ACCUMULATE,
-        Op::Vwmaccsu => WIDE_ACCUMULATE,
-        Op::Vwmaccus => WIDE_ACCUMULATE,
-        Op::Vmerge => MERGE,
-        Op::Vmv => MOVE,
-        Op::Vsaddu => SINGLE,
-        Op::Vsadd => SINGLE,
-        Op::Vssubu => SINGLE,
-        Op::Vssub => SINGLE,
-        Op::Vaaddu => SINGLE,
-        Op::Vaadd => SINGLE,
-        Op::Vasubu => SINGLE,
-        Op::Vasub => SINGLE,
-        Op::Vsmul => HIGH,
-        Op::Vssrl => SHIFT,
-        Op::Vssra => SHIFT,
-        Op::Vnclipu => NARROWING,
-        Op::Vnclip => NARROWING,
-        Op::Vmand => MASK,
-        Op::Vmnand => MASK,
-        Op::Vmandn => MASK,
-        Op::Vmxor => MASK,
-        Op::Vmor => MASK,
-        Op::Vmnor => MASK,
-        Op::Vmorn => MASK,
-        Op::Vmxnor => MASK,
-    }
+    shape_at(form_of(op))
 }
 
 fn is_double(size: Size) -> bool

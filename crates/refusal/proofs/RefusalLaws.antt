@@ -1,12 +1,13 @@
 -- What fitting rights and an accepted state keep to.
 use Prim.Native.Nat.{ℕ, zero, suc, _*_, _≤_}
 use mathlib.Core.Path.{_≡_, refl}
-use mathlib.Core.Bool.{Bool, true, false, _&&_, cond, and-eq-true-iff}
+use mathlib.Core.Bool.{Bool, true, false, cond}
 use mathlib.Core.List.{List, [], _∷_}
 use native.Mathlib.Omega.{arith}
 use borrow.Author.Tests.{leb-true, ltb-false, eqb-true, not-false}
 use lib.Dec.{leb}
 use lib.ListN.{length, getD}
+use Rattle.laws.proofs.Apart.{both-left, both-right}
 use Rattle.answer.specs.declared.Answer.{Answer}
 use Rattle.answer.specs.declared.Verdict.{Verdict}
 use Rattle.answer.specs.declared.Verdict.the-variants.{Accepted, Refused}
@@ -15,16 +16,10 @@ use Rattle.control.specs.declared.Control.{Control}
 use Rattle.control.specs.Control.{possibleOf}
 use Rattle.refusal.specs.Refusal.{rightsFit, refusalOf}
 
-and-left : (p q : Bool) → (p && q) ≡ true → p ≡ true
-and-left p q e = and-eq-true-iff p q .0 e .0
-
-and-right : (p q : Bool) → (p && q) ≡ true → q ≡ true
-and-right p q e = and-eq-true-iff p q .0 e .1
-
 pub right-le : (rs : List ℕ) (k : ℕ) → rightsFit rs ≡ true → getD rs k 0 ≤ 2
 right-le [] k h = omega arith
-right-le (r ∷ rs) zero h = leb-true r 2 (and-left (leb r 2) (rightsFit rs) h)
-right-le (r ∷ rs) (suc k) h = right-le rs k (and-right (leb r 2) (rightsFit rs) h)
+right-le (r ∷ rs) zero h = leb-true r 2 (both-left (leb r 2) (rightsFit rs) h)
+right-le (r ∷ rs) (suc k) h = right-le rs k (both-right (leb r 2) (rightsFit rs) h)
 
 -- a test that did not refuse, and those after it
 test-passed : (t : Bool) (a : Answer) (v : Verdict) → cond t (Refused a) v ≡ Accepted → t ≡ false
@@ -35,7 +30,7 @@ rest-passed : (t : Bool) (a : Answer) (v : Verdict) → cond t (Refused a) v ≡
 rest-passed true a v h = cc
 rest-passed false a v h = h
 
-ruleset passed = (test-passed, rest-passed, and-left, and-right, not-false, eqb-true, ltb-false)
+ruleset passed = (test-passed, rest-passed, both-left, both-right, not-false, eqb-true, ltb-false)
 
 pub record Acceptable (b : Board) (registers scalars memory : ℕ) (rights : List ℕ) (c : Control) : Type 0 where
   pub registers-length : registers ≡ 32 * b .vlenb

@@ -1,7 +1,8 @@
 use borrow.Author.Needs.{needs}
-use Rattle.number.proofs.SignedLaws.{in-range}
+use Rattle.width.proofs.SignedLaws.{in-range}
 use Rattle.fixed.specs.Fixed.{vnclip}
-use Rattle.fixed.proofs.ShiftLaws.{amount-lt, clips-rounded}
+use Rattle.width.proofs.LowBits.{amount-lt}
+use Rattle.fixed.proofs.ShiftLaws.{clips-rounded}
 use Rattle.fixed.proofs.nclip.Statement.{statement}
 use Rattle.fixed.proofs.nclip.Tie as tie
 

@@ -1,7 +1,8 @@
 use borrow.Author.Needs.{needs}
-use Rattle.number.proofs.SignedLaws.{in-range}
+use Rattle.width.proofs.SignedLaws.{in-range}
 use Rattle.fixed.specs.Fixed.{vssra}
-use Rattle.fixed.proofs.ShiftLaws.{amount-lt, wraps-rounded}
+use Rattle.width.proofs.LowBits.{amount-lt}
+use Rattle.fixed.proofs.ShiftLaws.{wraps-rounded}
 use Rattle.fixed.proofs.ssra.Statement.{statement}
 use Rattle.fixed.proofs.ssra.Tie as tie
 

@@ -1,6 +1,6 @@
 use borrow.Author.Needs.{needs}
 use Rattle.fixed.specs.Fixed.{vssrl}
-use Rattle.fixed.proofs.ShiftLaws.{amount-lt}
+use Rattle.width.proofs.LowBits.{amount-lt}
 use Rattle.fixed.proofs.ssrl.Statement.{statement}
 use Rattle.fixed.proofs.ssrl.Tie as tie
 

@@ -1,5 +1,5 @@
 use borrow.Author.Needs.{needs}
-use Rattle.integer.proofs.ShiftLaws.{amount-lt}
+use Rattle.width.proofs.LowBits.{amount-lt}
 use Rattle.integer.proofs.nsrl.Statement.{statement}
 use Rattle.integer.proofs.nsrl.Tie as tie
 

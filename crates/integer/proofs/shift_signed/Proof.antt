@@ -1,5 +1,6 @@
 use borrow.Author.Needs.{needs}
-use Rattle.integer.proofs.ShiftLaws.{amount-lt, amount-fits, right-is}
+use Rattle.width.proofs.LowBits.{amount-lt}
+use Rattle.integer.proofs.ShiftLaws.{amount-fits, right-is}
 use Rattle.integer.proofs.shift_signed.Statement.{statement}
 use Rattle.integer.proofs.shift_signed.Tie as tie
 

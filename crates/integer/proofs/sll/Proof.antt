@@ -1,5 +1,6 @@
 use borrow.Author.Needs.{needs}
-use Rattle.integer.proofs.ShiftLaws.{amount-lt, left-is}
+use Rattle.width.proofs.LowBits.{amount-lt}
+use Rattle.integer.proofs.ShiftLaws.{left-is}
 use Rattle.integer.proofs.sll.Statement.{statement}
 use Rattle.integer.proofs.sll.Tie as tie
 

@@ -1,0 +1,12 @@
+use borrow.Author.Needs.{needs}
+use Rattle.decode.specs.Word.{maskOf}
+use Rattle.laws.proofs.Chain.{chain}
+use Rattle.decode.proofs.mask_of.Statement.{statement}
+use Rattle.decode.proofs.mask_of.Tie as tie
+
+pub mask-of-spec : {M : Type 1} → statement M
+unfolding maskOf
+mask-of-spec =
+    tie.close
+    (tie.spec
+    (λ c. search chain) (λ c. search chain) (λ c. search chain) (λ c κs. search needs) (λ c. search chain))

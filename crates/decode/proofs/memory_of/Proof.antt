@@ -1,0 +1,14 @@
+use borrow.Author.Needs.{needs}
+use Rattle.decode.specs.Word.{memoryOf}
+use Rattle.laws.proofs.Chain.{chain}
+use Rattle.decode.proofs.memory_of.Statement.{statement}
+use Rattle.decode.proofs.memory_of.Tie as tie
+
+pub memory-of-spec : {M : Type 1} → statement M
+unfolding memoryOf
+memory-of-spec =
+    tie.close
+    (tie.spec
+    (λ c κs. search needs) (λ c. search chain) (λ c. search chain) (λ c. search needs) (λ c κs. search needs)
+    (λ c κs. search needs) (λ c κs. search needs)
+    (λ c. search chain) (λ c. search chain) (λ c. search chain))
