@@ -5,23 +5,20 @@ use Prim.Native.Nat.{ℕ, _*_, _/_, _<_, _≤_, _^_}
 use native.Mathlib.Nat.{le-div-iff-mul-le, div-le-self}
 use native.Mathlib.Omega.{arith}
 use lib.Dec.{lit≤}
+use Rattle.laws.proofs.Chain.{case}
 use Rattle.width.specs.Width.{Width}
 use Rattle.fixed.specs.declared.Element.{Element}
 use Rattle.fixed.specs.declared.Vxrm.{Vxrm}
 use Rattle.fixed.specs.Round.{exact}
 use Rattle.operation.specs.declared.Op.{Op}
 use Rattle.operation.specs.Shape.{eewOf, isDouble, shapeOf, largestSew}
+use Rattle.operation.proofs.ShapeLaws.{largest-le}
 use Rattle.element.specs.Element.{elementOf, Operands}
 
 -- ---- operands
 
-cond-le : (t : Bool) → cond t 32 64 ≤ 64
-cond-le true = omega arith
-cond-le false = omega arith
-
 pub width-fits : (o : Op) (w a b c : ℕ) → Operands o w a b c → Width w
-width-fits o w a b c h =
-    record { some = omega (arith, h .least); most = omega (arith, h .most, cond-le (shapeOf o .narrow || (isDouble (shapeOf o .vd) || isDouble (shapeOf o .vs2)))) }
+width-fits o w a b c h = record { some = omega (arith, h .least); most = omega (arith, h .most, largest-le o) }
 
 pub double-fits : (o v : Op) (w a b c : ℕ) → o ≡ v → Operands o w a b c → largestSew v ≡ 32 → Width (2 * w)
 double-fits o v w a b c e h l = let m : w ≤ 32 = subst (λ (n : ℕ). w ≤ n) (ap largestSew e ∙ l) (h .most) in record { some = omega (arith, h .least); most = omega arith }
@@ -48,14 +45,14 @@ pub ruleset fits = (lit≤, width-fits, double-fits, part-fits, vs2-fits, vs1-fi
 
 -- ---- results
 
-pub case : (o v : Op) (w : ℕ) (rm : Vxrm) (a b d c : ℕ) (r : Element) → o ≡ v → r ≡ elementOf v w rm a b d c → r ≡ elementOf o w rm a b d c
-case o v w rm a b d c r e p = p ∙ sym (ap (λ (x : Op). elementOf x w rm a b d c) e)
+pub clause : (o v : Op) (w : ℕ) (rm : Vxrm) (a b d c : ℕ) (r : Element) → o ≡ v → r ≡ elementOf v w rm a b d c → r ≡ elementOf o w rm a b d c
+clause o v w rm a b d c r e p = case (λ (x : Op). elementOf x w rm a b d c) o v r e p
 
 -- through `plain`
-pub plain-case : (o v : Op) (w : ℕ) (rm : Vxrm) (a b d c x : ℕ) (r : Element) → o ≡ v → r ≡ exact x → exact x ≡ elementOf v w rm a b d c → r ≡ elementOf o w rm a b d c
-plain-case o v w rm a b d c x r e p q = case o v w rm a b d c r e (p ∙ q)
+pub plain-clause : (o v : Op) (w : ℕ) (rm : Vxrm) (a b d c x : ℕ) (r : Element) → o ≡ v → r ≡ exact x → exact x ≡ elementOf v w rm a b d c → r ≡ elementOf o w rm a b d c
+plain-clause o v w rm a b d c x r e p q = clause o v w rm a b d c r e (p ∙ q)
 
 pub exact-is : (x y : ℕ) → x ≡ y → exact x ≡ exact y
 exact-is x y e = ap exact e
 
-pub ruleset ways = (case, plain-case, exact-is)
+pub ruleset ways = (clause, plain-clause, exact-is)
