@@ -148,7 +148,8 @@ fn opi(funct6: u32) -> Entry
         45 => Entry::Operation(Op::Vnsra),
         46 => Entry::Operation(Op::Vnclipu),
         47 => Entry::Operation(Op::Vnclip),
-        // vrgather, vslideup and vslidedown among them, left out
+        // vrgather, vrgatherei16, vslideup, vslidedown: left out
+        12..=15 => Entry::Reserved,
         _ => Entry::Reserved,
     }
 }
@@ -158,6 +159,8 @@ fn opm(funct6: u32) -> Entry
     ensures { λ r. ⌜ r ≡ opmOf funct6 ⌝ }
 {
     match funct6 {
+        // reductions: left out
+        0..=7 => Entry::Reserved,
         8 => Entry::Operation(Op::Vaaddu),
         9 => Entry::Operation(Op::Vaadd),
         10 => Entry::Operation(Op::Vasubu),
@@ -200,7 +203,6 @@ fn opm(funct6: u32) -> Entry
         61 => Entry::Operation(Op::Vwmacc),
         62 => Entry::Operation(Op::Vwmaccus),
         63 => Entry::Operation(Op::Vwmaccsu),
-        // the reductions among them, left out
         _ => Entry::Reserved,
     }
 }

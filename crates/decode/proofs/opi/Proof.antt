@@ -14,4 +14,6 @@ opi-spec =
     (λ c. search at) (λ c. search at) (λ c. search at) (λ c. search at) (λ c. search at) (λ c. search at) (λ c. search at)
     (λ c. search at) (λ c. search at) (λ c. search at) (λ c. search at) (λ c. search at) (λ c. search at) (λ c. search at)
     (λ c. search at) (λ c. search at)
-    (λ c. agree none (inColumn 4) (c .before .args .funct6) listing (c .match .rest)))
+    (λ c. agree none (inColumn 4) (c .before .before .before .args .funct6) listing (c .before .before .match .rest))
+    (λ c. agree none (inColumn 4) (c .before .before .args .funct6) listing (c .before .match .rest))
+    (λ c. agree none (inColumn 4) (c .before .before .before .args .funct6) listing (c .before .before .match .rest)))

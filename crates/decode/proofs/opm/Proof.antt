@@ -14,4 +14,5 @@ opm-spec =
     (λ c. search at) (λ c. search at) (λ c. search at) (λ c. search at) (λ c. search at) (λ c. search at) (λ c. search at)
     (λ c. search at) (λ c. search at) (λ c. search at) (λ c. search at) (λ c. search at) (λ c. search at) (λ c. search at)
     (λ c. search at) (λ c. search at) (λ c. search at) (λ c. search at) (λ c. search at) (λ c. search at) (λ c. search at)
-    (λ c. agree none inOpm (c .before .args .funct6) listing (c .match .rest)))
+    (λ c. agree none inOpm (c .before .before .args .funct6) listing (c .before .match .rest))
+    (λ c. agree none inOpm (c .before .before .args .funct6) listing (c .before .match .rest)))
