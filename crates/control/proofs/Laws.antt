@@ -19,7 +19,7 @@ use Rattle.control.specs.Vtype.{vill, lmul8Of, sewOf, vlmaxOf, supported
 use Rattle.control.specs.Control.{typedWellOf, possibleOf}
 
 pub base-valid : (b : Board) → b ≡ base → Valid b
-base-valid b e = rw e (record { some = lit≤ tt; most = lit≤ tt; elen = lit≤ tt })
+base-valid b e = rw e (record { lenb = 4; power = refl; some = lit≤ tt; most = lit≤ tt; elen = lit≤ tt; within = lit≤ tt })
 
 -- ---- tests taken apart
 cond-apart : (p q r : Bool) → cond p q r ≡ true → ((p ≡ true) × (q ≡ true)) ⊎ (r ≡ true)

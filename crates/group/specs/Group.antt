@@ -8,9 +8,9 @@ use Rattle.group.specs.declared.Group.{Group}
 unfoldable pub emul8Of : ℕ → ℕ → ℕ → ℕ
 emul8Of sew lmul8 eew = eew * lmul8 / sew
 
--- masks have EEW 1, lie in one register and are outside the EMUL rule
+-- masks have EEW 1, lie in one register and are outside the EMUL rule; EMUL counts as below 1, so that no wider destination overlaps one
 abbrev pub maskGroup : ℕ → Group
-maskGroup reg = record { reg = reg; eew = 1; emul8 = 8 }
+maskGroup reg = record { reg = reg; eew = 1; emul8 = 1 }
 
 -- how many registers a group has: EMUL, or 1 where that is less
 abbrev pub registersOf : Group → ℕ

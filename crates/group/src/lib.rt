@@ -26,7 +26,7 @@ pub fn mask(reg: usize) -> Group
     Group {
         reg,
         eew: 1,
-        emul8: 8,
+        emul8: 1,
     }
 }
 

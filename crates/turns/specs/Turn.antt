@@ -1,0 +1,186 @@
+-- One instruction run in turns: what a turn does, worked out from the state before it, and what a list of turns does.
+-- Turn, allowance, passed and stretch are terms of document 01, 'One turn and its answer'. Everything here is over any instruction, so
+-- it says nothing of registers or memory.
+use mathlib.Core.Path.{_≡_}
+use mathlib.Core.Bool.{Bool, true, false}
+use mathlib.Core.List.{List, [], _∷_}
+use mathlib.Core.Option.{Option, none, some}
+use Prim.Native.Nat.{ℕ, zero, suc, _+_, _-_, _^_, _≤_, _<_, min}
+use lib.Dec.{ltb}
+
+-- What one element does, by the state before: nothing (masked off), a fault, or a write.
+pub data Effect (F W : Type 0) : Type 0 where
+  idle : Effect F W
+  fault : F → Effect F W
+  write : W → Effect F W
+
+abbrev pub faults : {F W : Type 0} → Effect F W → Bool
+faults idle = false
+faults (fault x) = true
+faults (write w) = false
+
+-- how a turn ends: nothing remains, the allowance is used up, an element faulted, or the word is illegal or the state refused
+pub data Ending (F R : Type 0) : Type 0 where
+  finished : Ending F R
+  paused : Ending F R
+  trapped : F → Ending F R
+  refused : R → Ending F R
+
+-- the ending of a turn that an element with this effect stops: its fault
+abbrev pub trap : {F W R : Type 0} → Effect F W → Ending F R
+trap idle = paused
+trap (fault x) = trapped x
+trap (write w) = paused
+
+-- one more than k, or none where the test says that the first faults
+abbrev pub until : Bool → ℕ → ℕ
+until true k = zero
+until false k = suc k
+
+-- An instruction: one word, decoded. `State` is all but vstart and the rights.
+pub record Instruction : Type 1 where
+  pub State : Type 0
+  pub Rights : Type 0
+  pub Write : Type 0
+  -- what a fault tells, and what a refusal tells
+  pub Fault : Type 0
+  pub Refusal : Type 0
+  -- the refusal of a turn, by rights, state and vstart; none where the word is legal
+  pub refusal : Rights → State → ℕ → Option Refusal
+  -- the number of elements
+  pub count : State → ℕ
+  -- what the element at an index does
+  pub effect : Rights → State → ℕ → Effect Fault Write
+  -- a write is carried out
+  pub put : Write → State → State
+  -- what is done once no element remains: nothing for an instruction of elements, all for one that has none
+  pub finish : State → State
+  -- the second rights are the first, or raised
+  pub Opens : Rights → Rights → Type 0
+
+-- An instruction with no elements: one turn, at any allowance, writes its results from the state before, and finishes.
+abbrev pub oneTurn : (S R F N : Type 0) → (R → S → ℕ → Option N) → (S → S) → (R → R → Type 0) → Instruction
+oneTurn S R F N refusal results opens = record {
+  State = S;
+  Rights = R;
+  Write = ⊥;
+  Fault = F;
+  Refusal = N;
+  refusal = refusal;
+  count = λ s. zero;
+  effect = λ r s i. idle;
+  put = λ w s. s;
+  finish = results;
+  Opens = opens;
+}
+
+-- a state between turns
+pub record Point (I : Instruction) : Type 0 where
+  pub state : I .State
+  pub vstart : ℕ
+
+-- what a turn gives: how it ended, the number of elements passed, and the state and vstart that it leaves
+pub record Outcome (I : Instruction) : Type 0 where
+  pub ending : Ending (I .Fault) (I .Refusal)
+  pub passed : ℕ
+  pub after : Point I
+
+-- what a turn is given besides the state
+pub record Turn (I : Instruction) : Type 0 where
+  pub rights : I .Rights
+  pub allowance : ℕ
+
+-- the allowance of an uncut run
+abbrev pub uncutAllowance : ℕ
+uncutAllowance = 2 ^ 32 - 1
+
+module _ (I : Instruction) where
+  -- an effect is carried out; only a write changes the state
+  abbrev pub carry : Effect (I .Fault) (I .Write) → I .State → I .State
+  carry idle s = s
+  carry (fault x) s = s
+  carry (write w) s = I .put w s
+
+  -- s₀ decides what the n elements from i up write; s is the state that they are written into, the lowest first
+  unfoldable pub written : I .Rights → I .State → ℕ → ℕ → I .State → I .State
+  written r s₀ i zero s = s
+  written r s₀ i (suc n) s = written r s₀ (suc i) n (carry (I .effect r s₀ i) s)
+
+  -- the loop in place: each of the n elements from i up is worked out from the state as it is then
+  unfoldable pub inPlace : I .Rights → ℕ → ℕ → I .State → I .State
+  inPlace r i zero s = s
+  inPlace r i (suc n) s = inPlace r (suc i) n (carry (I .effect r s i) s)
+
+  -- of the n elements from i up, how many come before the first that faults: n where none does
+  unfoldable pub clean : I .Rights → I .State → ℕ → ℕ → ℕ
+  clean r s i zero = zero
+  clean r s i (suc n) = until (faults (I .effect r s i)) (clean r s (suc i) n)
+
+  -- how many elements remain from vstart up
+  abbrev pub remaining : Point I → ℕ
+  remaining p = I .count (p .state) - p .vstart
+
+  -- the state once the k elements from vstart up have written
+  abbrev pub passing : I .Rights → Point I → ℕ → I .State
+  passing r p k = written r (p .state) (p .vstart) k (p .state)
+
+  -- a legal turn that may pass n elements and passes k. The two tests: a fault stopped it; more remains than it may pass
+  abbrev pub ended : Bool → Bool → I .Rights → Point I → ℕ → ℕ → Outcome I
+  ended true more r p n k = record {
+    ending = trap (I .effect r (p .state) (p .vstart + k));
+    passed = k;
+    after = record { state = passing r p k; vstart = p .vstart + k };
+  }
+  ended false true r p n k = record {
+    ending = paused;
+    passed = n;
+    after = record { state = passing r p n; vstart = p .vstart + n };
+  }
+  ended false false r p n k = record {
+    ending = finished;
+    passed = n;
+    after = record { state = I .finish (passing r p n); vstart = zero };
+  }
+
+  -- a legal turn, by the number of elements that it may pass
+  abbrev pub legal : I .Rights → Point I → ℕ → Outcome I
+  legal r p n =
+      let k : ℕ = clean r (p .state) (p .vstart) n in
+      ended (ltb k n) (ltb n (remaining p)) r p n k
+
+  abbrev pub answered : Option (I .Refusal) → Point I → Outcome I → Outcome I
+  answered (some x) p o = record { ending = refused x; passed = zero; after = p }
+  answered none p o = o
+
+  -- THE DEFINITION of a turn
+  unfoldable pub turn : Turn I → Point I → Outcome I
+  turn t p =
+      answered (I .refusal (t .rights) (p .state) (p .vstart)) p
+      (legal (t .rights) p (min (t .allowance) (remaining p)))
+
+  -- a list of turns t ∷ us, each from where the one before it stopped: the last one's ending, and the passed counts added up
+  unfoldable pub turns : Turn I → List (Turn I) → Point I → Outcome I
+  turns t [] p = turn t p
+  turns t (u ∷ us) p =
+      let o : Outcome I = turn t p in
+      let q : Outcome I = turns u us (o .after) in
+      record { ending = q .ending; passed = o .passed + q .passed; after = q .after }
+
+  -- none but the last of the turns finishes
+  abbrev pub NoneFinishes : Turn I → List (Turn I) → Point I → Type 0
+  NoneFinishes t [] p = Unit {0}
+  NoneFinishes t (u ∷ us) p = (turn t p .ending ≡ finished → ⊥) × NoneFinishes u us (turn t p .after)
+
+  -- from one turn to the next, rights are at most raised
+  abbrev pub Opening : Turn I → List (Turn I) → Type 0
+  Opening t [] = Unit {0}
+  Opening t (u ∷ us) = I .Opens (t .rights) (u .rights) × Opening u us
+
+  -- the rights that the last turn gets
+  abbrev pub lastRights : Turn I → List (Turn I) → I .Rights
+  lastRights t [] = t .rights
+  lastRights t (u ∷ us) = lastRights u us
+
+  -- the outcome of one uncut run from p under r
+  abbrev pub uncutRun : I .Rights → Point I → Outcome I
+  uncutRun r p = turn (record { rights = r; allowance = uncutAllowance }) p
