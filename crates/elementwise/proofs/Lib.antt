@@ -1,0 +1,3 @@
+pub mod OperandLaws
+pub mod AccessLaws
+pub mod ElementwiseLaws

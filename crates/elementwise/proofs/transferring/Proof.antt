@@ -1,0 +1,20 @@
+use borrow.Author.Needs.{needs}
+use Rattle.elementwise.proofs.OperandLaws.{sew-small}
+use Rattle.elementwise.proofs.AccessLaws.{access-some, access-most, stride-fits, whole-emul, whole-bits, unit-is, strided-is, indexed-is, mask-is, whole-is}
+use Rattle.elementwise.proofs.transferring.Statement.{statement}
+use Rattle.elementwise.proofs.transferring.Tie as tie
+
+ruleset group-eew = (sew-small, access-most)
+
+pub transferring-spec : {M : Type 1} → statement M
+transferring-spec =
+    tie.close
+    (tie.spec
+    (λ c κs. search needs) (λ c κs. search needs)
+    (λ c. search needs) (λ c κs. search group-eew) (λ c κs. search needs)
+    (λ c. search needs) (λ c κs. search group-eew) (λ c κs. search stride-fits) (λ c κs. search needs)
+    (λ c. search needs) (λ c κs. search group-eew) (λ c κs. search group-eew) (λ c κs. search needs)
+    (λ c. search needs) (λ c. search needs) (λ c κs. search needs)
+    (λ c. search needs) (λ c. search whole-emul) (λ c. search needs) (λ c. search whole-bits) (λ c. search access-some)
+    (λ c κs. search needs)
+    (λ c. search unit-is) (λ c. search strided-is) (λ c. search indexed-is) (λ c. search mask-is) (λ c. search whole-is))
