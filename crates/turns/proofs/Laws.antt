@@ -1,6 +1,6 @@
 -- What is proved of every lawful instruction: a stretch may be cut anywhere, the loop in place does what the definition says,
 -- and a list of turns that ends in a finish does what one uncut run does.
-use mathlib.Core.Path.{_≡_, refl, sym, ap, ap₂, _∙_, subst}
+use mathlib.Core.Path.{_≡_, refl, sym, ap, _∙_, subst}
 use mathlib.Core.Bool.{Bool, true, false}
 use mathlib.Core.List.{List, [], _∷_}
 use mathlib.Core.Option.{Option, none, some}
@@ -10,16 +10,8 @@ use lib.Dec.{T, ltb}
 use borrow.Author.Tests.{ltb-true, ltb-false, le-ltb, lt-ltb}
 use native.Mathlib.Decide.{decLt}
 use native.Mathlib.Nat.{add-zero, add-suc, suc-add, zero-add, le-refl}
-use Rattle.turns.specs.Turn.{Effect, idle, fault, write, faults, Instruction, Ending, finished, paused, trapped, refused, Point, Outcome, Turn, carry, written, clean, until, trap, remaining, passing, ended, legal, answered, turn, turns, inPlace, NoneFinishes, Opening, lastRights, uncutAllowance, uncutRun, oneTurn}
+use Rattle.turns.specs.Turn.{Effect, idle, fault, write, faults, Instruction, finished, paused, trapped, refused, Point, Outcome, Turn, carry, written, clean, until, trap, remaining, passing, ended, legal, answered, turn, turns, inPlace, NoneFinishes, Opening, lastRights, uncutAllowance, oneTurn}
 use Rattle.turns.specs.Claims.{Lawful, Progress, passes, traps, finishes, Splits, InPlace, Progresses, Monotone, Uncut}
-
-paused-unfinished : {F R : Type 0} → _≡_ {A = Ending F R} paused finished → ⊥
-paused-unfinished f = let z : _≡_ {A = ℕ} 0 1 = cc in omega arith
-
-trap-unfinished : {F W R : Type 0} (e : Effect F W) → _≡_ {A = Ending F R} (trap e) finished → ⊥
-trap-unfinished idle f = paused-unfinished f
-trap-unfinished (fault x) f = let z : _≡_ {A = ℕ} 0 1 = cc in omega arith
-trap-unfinished (write w) f = paused-unfinished f
 
 until-le : (b : Bool) (k n : ℕ) → k ≤ n → until b k ≤ suc n
 until-le true k n h = omega arith
@@ -101,16 +93,24 @@ module _ (I : Instruction) where
       rw (h i (le-refl i) (omega arith))
       (ap suc (clean-exact r s (suc i) n k (omega arith) (λ j a b. h j (omega arith) (omega arith)) (rw suc-add (rw add-suc at f))))
 
+-- what every write keeps, a stretch keeps
+module _ (I : Instruction) (K : I .State → Type 0) (puts : (w : I .Write) (s : I .State) → K s → K (I .put w s)) where
+  carry-keeps : (e : Effect (I .Fault) (I .Write)) (s : I .State) → K s → K (carry I e s)
+  carry-keeps idle s h = h
+  carry-keeps (fault x) s h = h
+  carry-keeps (write w) s h = puts w s h
+
+  pub written-keeps : (r : I .Rights) (s₀ : I .State) (i n : ℕ) (s : I .State) → K s → K (written I r s₀ i n s)
+  unfolding written
+  written-keeps r s₀ i zero s h = h
+  written-keeps r s₀ i (suc n) s h = written-keeps r s₀ (suc i) n (carry I (I .effect r s₀ i) s) (carry-keeps (I .effect r s₀ i) s h)
+
 module _ (I : Instruction) (L : Lawful I) where
   carry-count : (e : Effect (I .Fault) (I .Write)) (s : I .State) → I .count (carry I e s) ≡ I .count s
-  carry-count idle s = refl
-  carry-count (fault x) s = refl
-  carry-count (write w) s = L .put-count w s
+  carry-count e s = carry-keeps I (λ u. I .count u ≡ I .count s) (λ w u h. L .put-count w u ∙ h) e s refl
 
   carry-legal : (r : I .Rights) (e : Effect (I .Fault) (I .Write)) (s : I .State) (v : ℕ) → I .refusal r s v ≡ none → I .refusal r (carry I e s) v ≡ none
-  carry-legal r idle s v h = h
-  carry-legal r (fault x) s v h = h
-  carry-legal r (write w) s v h = L .put-legal r w s v h
+  carry-legal r e s v h = carry-keeps I (λ u. I .refusal r u v ≡ none) (λ w u k. L .put-legal r w u v k) e s h
 
   -- carrying out element j leaves what a later element does as it was
   carry-stable : (r : I .Rights) (s : I .State) (v j i : ℕ) → I .refusal r s v ≡ none → j < i → i < I .count s
@@ -123,16 +123,11 @@ module _ (I : Instruction) (L : Lawful I) where
       go (write w) q = L .stable r s v j i w h l u q
 
   pub written-count : (r : I .Rights) (s₀ : I .State) (i n : ℕ) (s : I .State) → I .count (written I r s₀ i n s) ≡ I .count s
-  unfolding written
-  written-count r s₀ i zero s = refl
-  written-count r s₀ i (suc n) s = written-count r s₀ (suc i) n (carry I (I .effect r s₀ i) s) ∙ carry-count (I .effect r s₀ i) s
+  written-count r s₀ i n s = written-keeps I (λ u. I .count u ≡ I .count s) (λ w u h. L .put-count w u ∙ h) r s₀ i n s refl
 
   pub written-legal : (r r′ : I .Rights) (s₀ : I .State) (i n : ℕ) (s : I .State) (v : ℕ)
       → I .refusal r′ s v ≡ none → I .refusal r′ (written I r s₀ i n s) v ≡ none
-  unfolding written
-  written-legal r r′ s₀ i zero s v h = h
-  written-legal r r′ s₀ i (suc n) s v h =
-      written-legal r r′ s₀ (suc i) n (carry I (I .effect r s₀ i) s) v (carry-legal r′ (I .effect r s₀ i) s v h)
+  written-legal r r′ s₀ i n s v h = written-keeps I (λ u. I .refusal r′ u v ≡ none) (λ w u k. L .put-legal r′ w u v k) r s₀ i n s h
 
   -- the writes of elements before m leave what m does as it was
   pub written-stable : (r : I .Rights) (s : I .State) (v i n m : ℕ) → I .refusal r s v ≡ none → i + n ≤ m → m < I .count s
@@ -202,64 +197,92 @@ module _ (I : Instruction) where
     went-cut : Cut t p o → Went t p o
     went-done : Runs (t .rights) p → remaining I p ≤ t .allowance → o ≡ done (t .rights) p → Went t p o
 
-  went-legal : (t : Turn I) (p : Point I) (n k : ℕ) (b c : Bool) → I .refusal (t .rights) (p .state) (p .vstart) ≡ none
-      → n ≡ min (t .allowance) (remaining I p) → k ≡ clean I (t .rights) (p .state) (p .vstart) n
-      → ltb k n ≡ b → ltb n (remaining I p) ≡ c
-      → Went t p (ended I b c (t .rights) p n k)
-  went-legal t p n k true c h en ek eb ec = went-cut (record {
-    is-legal = h;
-    within = omega (arith, ltb-true);
-    no-fault = λ j a b. clean-passed I (t .rights) (p .state) (p .vstart) n j a (rw (← ek) b);
-    unfinished = trap-unfinished (I .effect (t .rights) (p .state) (p .vstart + k));
-    left = refl;
-  })
-  went-legal t p n k false true h en ek eb ec = went-cut (record {
-    is-legal = h;
-    within = omega arith;
-    no-fault = λ j a b. clean-passed I (t .rights) (p .state) (p .vstart) n j a (rw (← ek) (omega (arith, ltb-false)));
-    unfinished = λ f. paused-unfinished f;
-    left = refl;
-  })
-  went-legal t p n k false false h en ek eb ec =
-      let l : remaining I p ≤ n = ltb-false _ _ ec in
-      let e : n ≡ remaining I p = omega arith in
-      went-done
-      (record {
-        is-legal = h;
-        no-fault = λ j a b. clean-passed I (t .rights) (p .state) (p .vstart) n j a (rw (← ek) (omega (arith, ltb-false k n eb)));
-      })
-      (omega arith)
-      (rw e)
+  -- P holds of each outcome that a turn can have: refused, trapped, paused, finished
+  pub record Cases (t : Turn I) (p : Point I) (P : Outcome I → Type 0) : Type 0 where
+    pub on-refused : (x : I .Refusal) → I .refusal (t .rights) (p .state) (p .vstart) ≡ some x
+        → P (record { ending = refused x; passed = zero; after = p })
+    pub on-trapped : (x : I .Fault) (k : ℕ) → I .refusal (t .rights) (p .state) (p .vstart) ≡ none → k ≤ remaining I p
+        → ((j : ℕ) → p .vstart ≤ j → j < p .vstart + k → faults (I .effect (t .rights) (p .state) j) ≡ false)
+        → I .effect (t .rights) (p .state) (p .vstart + k) ≡ fault x
+        → P (record { ending = trapped x; passed = k; after = record { state = passing I (t .rights) p k; vstart = p .vstart + k } })
+    pub on-paused : (k : ℕ) → I .refusal (t .rights) (p .state) (p .vstart) ≡ none → k ≤ remaining I p → k ≡ t .allowance
+        → ((j : ℕ) → p .vstart ≤ j → j < p .vstart + k → faults (I .effect (t .rights) (p .state) j) ≡ false)
+        → P (record { ending = paused; passed = k; after = record { state = passing I (t .rights) p k; vstart = p .vstart + k } })
+    pub on-finished : Runs (t .rights) p → remaining I p ≤ t .allowance → P (done (t .rights) p)
+
+  module _ (t : Turn I) (p : Point I) (P : Outcome I → Type 0) (w : Cases t p P) where
+    legal-cases : (n k : ℕ) (b c : Bool) → I .refusal (t .rights) (p .state) (p .vstart) ≡ none
+        → n ≡ min (t .allowance) (remaining I p) → k ≡ clean I (t .rights) (p .state) (p .vstart) n
+        → ltb k n ≡ b → ltb n (remaining I p) ≡ c
+        → P (ended I b c (t .rights) p n k)
+    legal-cases n k true c h en ek eb ec = go (I .effect (t .rights) (p .state) (p .vstart + k)) refl
+        (rw ek (clean-stop I (t .rights) (p .state) (p .vstart) n (rw (← ek) (ltb-true k n eb))))
+      where
+        go : (e : Effect (I .Fault) (I .Write)) → I .effect (t .rights) (p .state) (p .vstart + k) ≡ e → faults e ≡ true
+            → P (record { ending = trap e; passed = k; after = record { state = passing I (t .rights) p k; vstart = p .vstart + k } })
+        go idle q f = absurd (subst T (sym f) tt)
+        go (fault x) q f = w .on-trapped x k h (omega (arith, ltb-true))
+            (λ j a b. clean-passed I (t .rights) (p .state) (p .vstart) n j a (rw (← ek) b)) q
+        go (write x) q f = absurd (subst T (sym f) tt)
+    legal-cases n k false true h en ek eb ec = w .on-paused n h (omega arith) (omega (arith, ltb-true))
+        (λ j a b. clean-passed I (t .rights) (p .state) (p .vstart) n j a (rw (← ek) (omega (arith, ltb-false))))
+    legal-cases n k false false h en ek eb ec =
+        let l : remaining I p ≤ n = ltb-false _ _ ec in
+        let e : n ≡ remaining I p = omega arith in
+        rw e (w .on-finished
+        (record {
+          is-legal = h;
+          no-fault = λ j a b. clean-passed I (t .rights) (p .state) (p .vstart) n j a (rw (← ek) (omega (arith, ltb-false k n eb)));
+        })
+        (omega arith))
+
+    -- what holds of each outcome that a turn can have holds of its outcome
+    pub turn-cases : P (turn I t p)
+    unfolding turn
+    turn-cases = go (I .refusal (t .rights) (p .state) (p .vstart)) refl
+      where
+        go : (x : Option (I .Refusal)) → I .refusal (t .rights) (p .state) (p .vstart) ≡ x
+            → P (answered I x p (legal I (t .rights) p (min (t .allowance) (remaining I p))))
+        go (some x) e = w .on-refused x e
+        go none e = legal-cases _ _ _ _ e refl refl refl refl
 
   went : (t : Turn I) (p : Point I) → Went t p (turn I t p)
-  unfolding turn
-  went t p = go (I .refusal (t .rights) (p .state) (p .vstart)) refl
-    where
-      go : (x : Option (I .Refusal)) → I .refusal (t .rights) (p .state) (p .vstart) ≡ x
-          → Went t p (answered I x p (legal I (t .rights) p (min (t .allowance) (remaining I p))))
-      go (some x) e = went-refused x refl
-      go none e = went-legal t p _ _ _ _ e refl refl refl refl
-
-  fault-trap : (e : Effect (I .Fault) (I .Write)) → faults e ≡ true → (x : I .Fault) × (_≡_ {A = Ending (I .Fault) (I .Refusal)} (trap e) (trapped x))
-  fault-trap idle h = absurd (subst T (sym h) tt)
-  fault-trap (fault x) h = (x, refl)
-  fault-trap (write w) h = absurd (subst T (sym h) tt)
-
-  progress-legal : (t : Turn I) (p : Point I) (n k : ℕ) (b c : Bool) → zero < t .allowance
-      → n ≡ min (t .allowance) (remaining I p) → k ≡ clean I (t .rights) (p .state) (p .vstart) n
-      → ltb k n ≡ b → ltb n (remaining I p) ≡ c
-      → Progress I (ended I b c (t .rights) p n k)
-  progress-legal t p n k true c l en ek eb ec =
-      let e : Effect (I .Fault) (I .Write) = I .effect (t .rights) (p .state) (p .vstart + k) in
-      let f : faults e ≡ true = rw ek (clean-stop I (t .rights) (p .state) (p .vstart) n (rw (← ek) (ltb-true k n eb))) in
-      let x : (x : I .Fault) × (_≡_ {A = Ending (I .Fault) (I .Refusal)} (trap e) (trapped x)) = fault-trap e f in
-      traps (x .0) (x .1)
-  progress-legal t p n k false true l en ek eb ec = passes (omega (arith, ltb-true))
-  progress-legal t p n k false false l en ek eb ec = finishes refl
+  went t p = turn-cases t p (Went t p) (record {
+    on-refused = λ x e. went-refused x refl;
+    on-trapped = λ x k h l f e. went-cut (record {
+      is-legal = h;
+      within = l;
+      no-fault = f;
+      unfinished = λ q. (let z : _≡_ {A = ℕ} 0 1 = cc in omega arith);
+      left = refl;
+    });
+    on-paused = λ k h l e f. went-cut (record {
+      is-legal = h;
+      within = l;
+      no-fault = f;
+      unfinished = λ q. (let z : _≡_ {A = ℕ} 0 1 = cc in omega arith);
+      left = refl;
+    });
+    on-finished = λ h l. went-done h l refl;
+  })
 
   pub progress : Progresses I
-  unfolding turn
-  progress t p l h = rw h (progress-legal t p _ _ _ _ l refl refl refl refl)
+  progress t p l h = turn-cases t p (Progress I) (record {
+    on-refused = λ x e. absurd (let z : _≡_ {A = ℕ} 0 1 = cc in omega arith);
+    on-trapped = λ x k g m f e. traps x refl;
+    on-paused = λ k g m e f. passes (omega arith);
+    on-finished = λ g m. finishes refl;
+  })
+
+  -- what every write and the finish keep, a turn keeps
+  pub turn-keeps : (K : I .State → Type 0) → ((w : I .Write) (s : I .State) → K s → K (I .put w s)) → ((s : I .State) → K s → K (I .finish s))
+      → (t : Turn I) (p : Point I) → K (p .state) → K (turn I t p .after .state)
+  turn-keeps K puts ends t p h = turn-cases t p (λ o. K (o .after .state)) (record {
+    on-refused = λ x e. h;
+    on-trapped = λ x k g l f e. written-keeps I K puts (t .rights) (p .state) (p .vstart) k (p .state) h;
+    on-paused = λ k g l e f. written-keeps I K puts (t .rights) (p .state) (p .vstart) k (p .state) h;
+    on-finished = λ g l. ends _ (written-keeps I K puts (t .rights) (p .state) (p .vstart) (remaining I p) (p .state) h);
+  })
 
 module _ (I : Instruction) (L : Lawful I) where
   -- a turn that finishes runs free of faults, to what `done` says

@@ -1,0 +1,5 @@
+pub mod State
+pub mod Effect
+pub mod OneTurn
+pub mod Machine
+pub mod Demands
