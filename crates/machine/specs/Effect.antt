@@ -20,6 +20,7 @@ use Rattle.elementwise.specs.declared.Read.{Read}
 use Rattle.elementwise.specs.declared.Read.the-variants as R
 use Rattle.elementwise.specs.declared.Action.{Action}
 use Rattle.elementwise.specs.declared.Action.the-variants as A
+use Rattle.elementwise.specs.declared.Compute.{Compute}
 use Rattle.elementwise.specs.declared.Transfer.{Transfer}
 use Rattle.elementwise.specs.declared.Elementwise.{Elementwise}
 use Rattle.turns.specs.Turn.{Effect, idle, fault, write}
@@ -71,6 +72,16 @@ abbrev pub byVerdict : Verdict → ℕ → Effect Fault Write → Effect Fault W
 byVerdict Accepted a e = e
 byVerdict (Refused x) a e = fault (record { answer = x; address = a })
 
+-- an operation on the operands' elements
+abbrev pub computing : ℕ → List ℕ → Elementwise → Compute → ℕ → Effect Fault Write
+computing vlenb file e k i =
+    write (toRegisters (e .dest) i
+    (elementOf (k .op) (k .sew) (k .vxrm)
+    (valueOf vlenb file (e .vs2) i)
+    (valueOf vlenb file (e .vs1) i)
+    (valueOf vlenb file (e .vd) i)
+    (valueOf vlenb file (e .v0) i)))
+
 -- a load and a store of the element at an address
 abbrev pub loading : List ℕ → Core → Elementwise → Transfer → ℕ → ℕ → Effect Fault Write
 loading rights s e t i a =
@@ -82,13 +93,7 @@ storing rights s t x a =
     byVerdict (accessOf rights (length (s .memory)) true a (t .bytes)) a (write (toMemory a (t .bytes) x))
 
 unfoldable pub actingOf : Board → List ℕ → Core → Elementwise → ℕ → Action → Effect Fault Write
-actingOf b rights s e i (A.Compute k) =
-    write (toRegisters (e .dest) i
-    (elementOf (k .op) (k .sew) (k .vxrm)
-    (valueOf (b .vlenb) (s .registers) (e .vs2) i)
-    (valueOf (b .vlenb) (s .registers) (e .vs1) i)
-    (valueOf (b .vlenb) (s .registers) (e .vd) i)
-    (valueOf (b .vlenb) (s .registers) (e .v0) i)))
+actingOf b rights s e i (A.Compute k) = computing (b .vlenb) (s .registers) e k i
 actingOf b rights s e i (A.Load t) = loading rights s e t i (addressOf t i (valueOf (b .vlenb) (s .registers) (e .vs2) i))
 actingOf b rights s e i (A.Store t) =
     storing rights s t (valueOf (b .vlenb) (s .registers) (e .vd) i) (addressOf t i (valueOf (b .vlenb) (s .registers) (e .vs2) i))

@@ -1,0 +1,3 @@
+pub mod ScalarLaws
+pub mod MaskLaws
+pub mod ResultLaws

@@ -1,0 +1,16 @@
+use borrow.Author.Needs.{needs}
+use Rattle.oneturn.proofs.MaskLaws.{bit-inside, put-active, put-idle}
+use Rattle.oneturn.proofs.set_bit.Statement.{statement}
+use Rattle.oneturn.proofs.set_bit.Tie as tie
+
+pub set-bit-spec : {M : Type 1} → statement M
+set-bit-spec =
+    tie.close
+    (tie.spec
+    (λ c κs. search needs)
+    (λ c κs. search needs)
+    (λ c κs. search bit-inside)
+    (λ c. search needs)
+    (λ c. search put-active)
+    (λ c. search needs)
+    (λ c. search put-idle))

@@ -1,0 +1,14 @@
+use borrow.Author.Needs.{needs}
+use Rattle.oneturn.proofs.ScalarLaws.{type-register, type-by}
+use Rattle.oneturn.proofs.type_of.Statement.{statement}
+use Rattle.oneturn.proofs.type_of.Tie as tie
+
+pub type-of-spec : {M : Type 1} → statement M
+type-of-spec =
+    tie.close
+    (tie.spec
+    (λ c. search needs)
+    (λ c. search needs)
+    (λ c κs. (search needs, search type-register))
+    (λ c. search type-by)
+    (λ c. search type-by))
