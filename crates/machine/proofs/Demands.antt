@@ -311,9 +311,9 @@ module _ (b : Board) (word : ℕ) where
         let e : ranOf b i n s .ending ≡ finished = turn-finished b i t (pointOf b i s) f in
         ap (outcomeOf b i r) (monotone (J b i) L t (turnWith b i r m) (pointOf b i s) o l e) ∙ outcome-finished b i r (ranOf b i n s) e
 
-pub demand3 : (b : Board) → ((word : ℕ) → Lawful (instructionOf b (decodeOf word))) → Demand3 b
+pub demand3-lawful : (b : Board) → ((word : ℕ) → Lawful (instructionOf b (decodeOf word))) → Demand3 b
 unfolding turnOf
-demand3 b L = record {
+demand3-lawful b L = record {
   uncut = λ word. uncut-turns b word (L word);
   progress = λ word n s. turn-progress b (decodeOf word) (turnWith b (decodeOf word) (s .rights) n) (pointOf b (decodeOf word) s);
   monotone = λ word. wider-turn b word (L word);

@@ -1,0 +1,275 @@
+-- A legal arithmetic or memory instruction: what it writes at one element leaves what a later element reads as it was.
+use Prim.Native.Nat.{ℕ, _*_, _/_, _≤_, _<_}
+use mathlib.Core.Path.{_≡_, refl, sym, subst}
+use mathlib.Core.Logic.{⊎-elim}
+use mathlib.Core.List.{List, [], _∷_}
+use mathlib.Core.Bool.{Bool, true, false, not, _||_, cond, or-true}
+use native.Mathlib.Omega.{arith}
+use native.Mathlib.Nat.{div-le-of-le-mul, mul-le-mul-right}
+use lib.Dec.{T, eqb, lit≤}
+use types.Run.{OneOf}
+use Rattle.laws.proofs.Apart.{both-left, both-right}
+use Rattle.laws.proofs.Chain.{or-left}
+use Rattle.operation.specs.declared.Size.{Size}
+use Rattle.operation.specs.declared.Size.the-variants.{Absent, Bit, Eighth, Quarter, Half, Single, Double}
+use Rattle.operation.specs.declared.V0.{V0}
+use Rattle.operation.specs.declared.V0.the-variants.{Masks, Carry, MaybeCarry, Unused}
+use Rattle.operation.specs.Shape.{shapeOf}
+use Rattle.control.specs.declared.Board.{Board}
+use Rattle.control.specs.declared.Control.{Control}
+use Rattle.control.specs.Board.{Valid}
+use Rattle.control.specs.Vtype.{sewOf, vlmaxOf, supportedOf}
+use Rattle.control.proofs.Laws.{sew-ge, vlmax-le, typed-well-apart, Possible}
+use Rattle.decode.specs.declared.Arithmetic.{Arithmetic}
+use Rattle.decode.specs.declared.Access.{Access}
+use Rattle.decode.specs.declared.Source.{Source}
+use Rattle.decode.specs.declared.Source.the-variants.{Vector, Scalar, Immediate}
+use Rattle.decode.specs.declared.Mode.{Mode}
+use Rattle.decode.specs.declared.Mode.the-variants as M
+use Rattle.decode.specs.Fields.{ModeFits, AccessFits}
+use Rattle.layout.specs.Layout.{withElement, elementWidth}
+use Rattle.layout.proofs.ElementLaws as Element
+use Rattle.group.specs.declared.Group.{Group}
+use Rattle.group.specs.Group.{maskGroup, placedOf, mayOverlapOf, sparesV0}
+use Rattle.elementwise.specs.declared.Read.{Read}
+use Rattle.elementwise.specs.declared.Read.the-variants as R
+use Rattle.elementwise.specs.declared.Action.the-variants as A
+use Rattle.elementwise.specs.declared.Transfer.{Transfer}
+use Rattle.elementwise.specs.declared.Elementwise.{Elementwise}
+use Rattle.elementwise.specs.Elementwise.{groupAt, readAt, groupOf, secondOf, v0Read, computingOf, movingOf, byMode, transferringOf, readFits, writesRegisters, isBit, legalOf}
+use Rattle.machine.specs.Effect.{valueOf}
+use Rattle.machine.proofs.Geometry.{Power, power-of, product-power, quotient, quotient-low, sew-power, Extent, mask-extent, placed-extent, extent, overlap-apart, v0-apart}
+
+-- ---- legality taken apart
+
+pub record Legal (elen : ℕ) (writes : Bool) (e : Elementwise) : Type 0 where
+  pub dest : (eqb (e .dest .eew) 1 || placedOf elen (e .dest)) ≡ true
+  pub vs2 : readFits elen writes (e .dest) (e .vs2) ≡ true
+  pub vs1 : readFits elen writes (e .dest) (e .vs1) ≡ true
+  pub vd : readFits elen writes (e .dest) (e .vd) ≡ true
+  pub v0 : (not writes || sparesV0 (e .masked || isBit (e .v0)) (e .dest)) ≡ true
+
+legal-at : (elen : ℕ) (e : Elementwise) → legalOf elen e ≡ true → Legal elen (writesRegisters (e .action)) e
+unfolding legalOf
+legal-at elen e h = search (both-left, both-right)
+
+legal-facts : (elen : ℕ) (e : Elementwise) → legalOf elen e ≡ true → writesRegisters (e .action) ≡ true → Legal elen true e
+legal-facts elen e h t = subst (λ (p : Bool). Legal elen p e) t (legal-at elen e h)
+
+-- ---- operands at a vtype: a number, a mask register, or a group
+
+pub data Operand (v : ℕ) : Read → Type 0 where
+  constant : (n : ℕ) → Operand v (R.Constant n)
+  bit : (reg : ℕ) → Operand v (R.Bit reg)
+  element : (eew reg : ℕ) → Power eew → Operand v (R.Element (groupAt v eew reg))
+
+part : (v k reg : ℕ) → 1 ≤ k → k ≤ 8 → Power k → Operand v (R.Element (groupAt v (sewOf v / k) reg))
+part v k reg l u p = element (sewOf v / k) reg (quotient (sewOf v) k (sew-power v) p (quotient-low (sewOf v) k l (omega (arith, sew-ge v))) .power)
+
+read-operand : (v : ℕ) (size : Size) (reg : ℕ) → Operand v (readAt v size reg)
+unfolding readAt
+read-operand v Absent reg = constant 0
+read-operand v Bit reg = bit reg
+read-operand v Eighth reg = part v 8 reg (lit≤ tt) (lit≤ tt) (power-of 3)
+read-operand v Quarter reg = part v 4 reg (lit≤ tt) (lit≤ tt) (power-of 2)
+read-operand v Half reg = part v 2 reg (lit≤ tt) (lit≤ tt) (power-of 1)
+read-operand v Single reg = element (sewOf v) reg (sew-power v)
+read-operand v Double reg = element (2 * sewOf v) reg (product-power 2 (sewOf v) (power-of 1) (sew-power v))
+
+second-operand : (x : List ℕ) (v : ℕ) (size : Size) (shift : Bool) (s : Source) → Operand v (secondOf x v size shift s)
+unfolding secondOf
+second-operand x v size shift (Vector r) = read-operand v size r
+second-operand x v size shift (Scalar r) = constant _
+second-operand x v size shift (Immediate n) = constant _
+
+if-operand : (v : ℕ) (t : Bool) (r : Read) → Operand v r → Operand v (cond t r (R.Constant 0))
+if-operand v true r o = o
+if-operand v false r o = constant 0
+
+-- ---- what a later element reads, after an element of the destination was written
+
+abbrev pub Kept : ℕ → ℕ → Group → Read → Type 0
+Kept vlenb end d r =
+    (file : List ℕ) (j i x : ℕ) → j < i → i < end → valueOf vlenb (withElement vlenb file (d .reg) (d .eew) j x) r i ≡ valueOf vlenb file r i
+
+pub record Undisturbed (vlenb : ℕ) (e : Elementwise) : Type 0 where
+  pub vs2 : Kept vlenb (e .end) (e .dest) (e .vs2)
+  pub vs1 : Kept vlenb (e .end) (e .dest) (e .vs1)
+  pub vd : Kept vlenb (e .end) (e .dest) (e .vd)
+  pub v0 : Kept vlenb (e .end) (e .dest) (e .v0)
+  pub mask : e .masked ≡ true → Kept vlenb (e .end) (e .dest) (R.Bit 0)
+
+constant-kept : (vlenb end : ℕ) (d : Group) (n : ℕ) → Kept vlenb end d (R.Constant n)
+unfolding valueOf
+constant-kept vlenb end d n file j i x l u = refl
+
+-- v0 as the mask or as an operand
+data OfV0 : Read → Type 0 where
+  unused : (n : ℕ) → OfV0 (R.Constant n)
+  used : OfV0 (R.Bit 0)
+
+v0-of : (z : V0) (masked : Bool) → OfV0 (v0Read z masked)
+v0-of Masks masked = unused 0
+v0-of Carry masked = used
+v0-of MaybeCarry true = used
+v0-of MaybeCarry false = unused 0
+v0-of Unused masked = unused 0
+
+bit-kept : (vlenb end : ℕ) (d : Group) → T (elementWidth (d .eew)) → end ≤ 8 * vlenb → (not (eqb (d .reg) 0) || eqb (d .eew) 1) ≡ true
+    → Kept vlenb end d (R.Bit 0)
+unfolding valueOf
+bit-kept vlenb end d t m h file j i x l u =
+    Element.apart vlenb file (d .reg) (d .eew) j x 0 1 i t tt (v0-apart vlenb d j i l (omega arith) h)
+
+spared : (p : Bool) (d : Group) → p ≡ true → sparesV0 p d ≡ true → (not (eqb (d .reg) 0) || eqb (d .eew) 1) ≡ true
+unfolding sparesV0
+spared p d e h = rw e at h
+
+v0-kept : (vlenb end : ℕ) (d : Group) (m : Bool) (r : Read) → T (elementWidth (d .eew)) → end ≤ 8 * vlenb → OfV0 r → sparesV0 (m || isBit r) d ≡ true
+    → Kept vlenb end d r
+v0-kept vlenb end d m _ t l (unused n) h = constant-kept vlenb end d n
+v0-kept vlenb end d m _ t l used h = bit-kept vlenb end d t l (spared (m || true) d (or-true m) h)
+
+-- ---- at a supported vtype v
+
+module _ (b : Board) (v : ℕ) (w : Valid b) (h : supportedOf b v ≡ true) where
+  dest-extent : (r : Read) → Operand v r → (eqb (groupOf r .eew) 1 || placedOf (b .elen) (groupOf r)) ≡ true → Extent (vlmaxOf b v) (b .vlenb) (groupOf r)
+  dest-extent _ (constant n) t = mask-extent b v 0
+  dest-extent _ (bit reg) t = mask-extent b v reg
+  dest-extent _ (element eew reg p) t = extent b v w h eew p reg t
+
+  module _ (end : ℕ) (d : Group) (most : end ≤ vlmaxOf b v) (x : Extent (vlmaxOf b v) (b .vlenb) d) where
+    source-kept : (g : Group) → Extent (vlmaxOf b v) (b .vlenb) g → mayOverlapOf d g ≡ true → Kept (b .vlenb) end d (R.Element g)
+    unfolding valueOf
+    source-kept g y o file j i n l u =
+        Element.apart (b .vlenb) file (d .reg) (d .eew) j n (g .reg) (g .eew) i (x .width) (y .width)
+        (overlap-apart (vlmaxOf b v) (b .vlenb) d g j i (w .some) x y l (omega arith) o)
+
+    -- a bit reads as an element of a mask register
+    mask-kept : (reg : ℕ) → mayOverlapOf d (maskGroup reg) ≡ true → Kept (b .vlenb) end d (R.Bit reg)
+    unfolding valueOf
+    mask-kept reg o = source-kept (maskGroup reg) (mask-extent b v reg) o
+
+    operand-kept : (r : Read) → Operand v r → readFits (b .elen) true d r ≡ true → Kept (b .vlenb) end d r
+    unfolding readFits
+    operand-kept _ (constant n) t = constant-kept (b .vlenb) end d n
+    operand-kept _ (bit reg) t = mask-kept reg t
+    operand-kept _ (element eew reg p) t =
+        let g : Group = groupAt v eew reg in
+        let q : placedOf (b .elen) g ≡ true = both-left (placedOf (b .elen) g) (mayOverlapOf d g) t in
+        source-kept g (placed-extent b v w h eew p reg q) (both-right (placedOf (b .elen) g) (mayOverlapOf d g) t)
+
+  undisturbed : (e : Elementwise) (r : Read) → e .end ≤ vlmaxOf b v → Operand v r → e .dest ≡ groupOf r → Operand v (e .vs2) → Operand v (e .vs1) → Operand v (e .vd)
+      → OfV0 (e .v0) → Legal (b .elen) true e → Undisturbed (b .vlenb) e
+  undisturbed e r m o q o2 o1 od o0 l =
+      record {
+        vs2 = operand-kept (e .end) (e .dest) m x (e .vs2) o2 (l .vs2);
+        vs1 = operand-kept (e .end) (e .dest) m x (e .vs1) o1 (l .vs1);
+        vd = operand-kept (e .end) (e .dest) m x (e .vd) od (l .vd);
+        v0 = v0-kept (b .vlenb) (e .end) (e .dest) (e .masked) (e .v0) (x .width) (omega (arith, vlmax-le b v)) o0 (l .v0);
+        mask = λ t. bit-kept (b .vlenb) (e .end) (e .dest) (x .width) (omega (arith, vlmax-le b v)) (spared _ (e .dest) (or-left (e .masked) (isBit (e .v0)) t) (l .v0));
+      }
+    where
+      x : Extent (vlmaxOf b v) (b .vlenb) (e .dest)
+      x = subst (λ (g : Group). (eqb (g .eew) 1 || placedOf (b .elen) g) ≡ true → Extent (vlmaxOf b v) (b .vlenb) g) (sym q) (dest-extent r o) (l .dest)
+
+-- where vl is not 0, vtype is supported
+supported : (b : Board) (c : Control) → Possible b c → 0 < c .vl → (supportedOf b (c .vtype) ≡ true) × (c .vl ≤ vlmaxOf b (c .vtype))
+supported b c t l = ⊎-elim (λ q. absurd (omega arith)) (λ q. q) (typed-well-apart b c (t .typed))
+
+-- ---- arithmetic
+
+pub computing-end : (b : Board) (x : List ℕ) (c : Control) (a : Arithmetic) → Possible b c → computingOf x c a .end ≤ 8 * b .vlenb
+unfolding computingOf
+computing-end b x c a t = t .vl
+
+pub computing-undisturbed : (b : Board) (x : List ℕ) (c : Control) (a : Arithmetic) → Valid b → Possible b c → 0 < computingOf x c a .end
+    → legalOf (b .elen) (computingOf x c a) ≡ true → Undisturbed (b .vlenb) (computingOf x c a)
+unfolding computingOf
+computing-undisturbed b x c a w t l h =
+    let s = supported b c t l in
+    let d = read-operand (c .vtype) (shapeOf (a .op) .vd) (a .vd) in
+    undisturbed b (c .vtype) w (s .0) (computingOf x c a) (readAt (c .vtype) (shapeOf (a .op) .vd) (a .vd)) (s .1) d refl
+    (read-operand (c .vtype) (shapeOf (a .op) .vs2) (a .vs2))
+    (second-operand x (c .vtype) (shapeOf (a .op) .vs1) (shapeOf (a .op) .shift) (a .source))
+    (if-operand (c .vtype) (shapeOf (a .op) .accumulates) _ d)
+    (v0-of (shapeOf (a .op) .v0) (a .masked))
+    (legal-facts (b .elen) (computingOf x c a) h refl)
+
+-- ---- loads and stores
+
+one-of : (P : ℕ → Type 0) (i j k l : ℕ) → P i → P j → P k → P l → (n : ℕ) → OneOf (i ∷ j ∷ k ∷ l ∷ []) n → P n
+one-of P i j k l p q r s n h =
+    ⊎-elim (λ e. subst P (sym e) p) (⊎-elim (λ e. subst P (sym e) q) (⊎-elim (λ e. subst P (sym e) r) (λ e. subst P (sym e) s))) h
+
+eew-power : (a : Access) → AccessFits a → Power (a .eew)
+eew-power a f = one-of Power 8 16 32 64 (power-of 3) (power-of 4) (power-of 5) (power-of 6) (a .eew) (f .eew)
+
+eew-width : (a : Access) → AccessFits a → T (elementWidth (a .eew))
+eew-width a f = one-of (λ n. T (elementWidth n)) 8 16 32 64 tt tt tt tt (a .eew) (f .eew)
+
+eew-low : (a : Access) → AccessFits a → 8 ≤ a .eew
+eew-low a f = one-of (λ n. 8 ≤ n) 8 16 32 64 (lit≤ tt) (lit≤ tt) (lit≤ tt) (lit≤ tt) (a .eew) (f .eew)
+
+not-store : (p : Bool) (t : Transfer) → writesRegisters (cond p (A.Store t) (A.Load t)) ≡ true → p ≡ false
+not-store true t h = sym h
+not-store false t h = refl
+
+module _ (b : Board) (x : List ℕ) (c : Control) (a : Access) (base : ℕ) (w : Valid b) (t : Possible b c) (f : AccessFits a) where
+  mode-end : (m : Mode) → ModeFits m → byMode b x c a base m .end ≤ 8 * b .vlenb
+  unfolding byMode movingOf
+  mode-end M.Unit n = t .vl
+  mode-end (M.Strided r) n = t .vl
+  mode-end (M.Indexed r) n = t .vl
+  mode-end M.MaskBytes n = omega (arith, t .vl, w .some)
+  mode-end (M.Whole k) n =
+      let most : k ≤ 8 = one-of (λ m. m ≤ 8) 1 2 4 8 (lit≤ tt) (lit≤ tt) (lit≤ tt) (lit≤ tt) k n in
+      let all : k * (8 * b .vlenb) ≤ a .eew * (8 * b .vlenb) = mul-le-mul-right (8 * b .vlenb) (omega (arith, eew-low a f)) in
+      div-le-of-le-mul (a .eew) all
+
+  -- a group at the vtype, alone or beside a group of offsets
+  grouped : (eew stride bytes : ℕ) (offset : Read) → Power eew → Operand (c .vtype) offset → 0 < c .vl
+      → (let e : Elementwise = movingOf a base (groupAt (c .vtype) eew (a .vd)) offset stride bytes (c .vl) in
+      legalOf (b .elen) e ≡ true → writesRegisters (e .action) ≡ true → Undisturbed (b .vlenb) e)
+  unfolding movingOf
+  grouped eew stride bytes offset p o l h r =
+      let e : Elementwise = movingOf a base (groupAt (c .vtype) eew (a .vd)) offset stride bytes (c .vl) in
+      let s = supported b c t l in
+      let d = element eew (a .vd) p in
+      undisturbed b (c .vtype) w (s .0) e (R.Element (groupAt (c .vtype) eew (a .vd))) (s .1) d refl
+      o (constant 0) (if-operand (c .vtype) (a .store) _ d) (unused 0) (legal-facts (b .elen) e h r)
+
+  -- registers whatever the vtype: they are beside no other operand than the mask
+  alone : (g : Group) (stride bytes end : ℕ) → T (elementWidth (g .eew)) → end ≤ 8 * b .vlenb
+      → (let e : Elementwise = movingOf a base g (R.Constant 0) stride bytes end in
+      legalOf (b .elen) e ≡ true → writesRegisters (e .action) ≡ true → Undisturbed (b .vlenb) e)
+  unfolding movingOf
+  alone g stride bytes end k m h r =
+      let e : Elementwise = movingOf a base g (R.Constant 0) stride bytes end in
+      let none : (n : ℕ) → Kept (b .vlenb) end g (R.Constant n) = constant-kept (b .vlenb) end g in
+      record {
+        vs2 = none 0;
+        vs1 = none 0;
+        vd = subst (λ (p : Bool). Kept (b .vlenb) end g (cond p (R.Element g) (R.Constant 0))) (sym (not-store (a .store) _ r)) (none 0);
+        v0 = none 0;
+        mask = λ q. bit-kept (b .vlenb) end g k m (spared _ g (or-left (a .masked) false q) (legal-facts (b .elen) e h r .v0));
+      }
+
+  mode-undisturbed : (m : Mode) → ModeFits m
+      → (let e : Elementwise = byMode b x c a base m in
+      0 < e .end → legalOf (b .elen) e ≡ true → writesRegisters (e .action) ≡ true → Undisturbed (b .vlenb) e)
+  unfolding byMode movingOf
+  mode-undisturbed M.Unit n l h r = grouped (a .eew) _ _ (R.Constant 0) (eew-power a f) (constant 0) l h r
+  mode-undisturbed (M.Strided k) n l h r = grouped (a .eew) _ _ (R.Constant 0) (eew-power a f) (constant 0) l h r
+  mode-undisturbed (M.Indexed k) n l h r =
+      grouped (sewOf (c .vtype)) _ _ (R.Element (groupAt (c .vtype) (a .eew) k)) (sew-power (c .vtype)) (element (a .eew) k (eew-power a f)) l h r
+  mode-undisturbed M.MaskBytes n l h r = alone _ _ _ _ tt (mode-end M.MaskBytes n) h r
+  mode-undisturbed (M.Whole k) n l h r = alone _ _ _ _ (eew-width a f) (mode-end (M.Whole k) n) h r
+
+pub transferring-end : (b : Board) (x : List ℕ) (c : Control) (a : Access) → Valid b → Possible b c → AccessFits a → transferringOf b x c a .end ≤ 8 * b .vlenb
+transferring-end b x c a w t f = mode-end b x c a _ w t f (a .mode) (f .mode)
+
+pub transferring-undisturbed : (b : Board) (x : List ℕ) (c : Control) (a : Access) → Valid b → Possible b c → AccessFits a
+    → 0 < transferringOf b x c a .end → legalOf (b .elen) (transferringOf b x c a) ≡ true → writesRegisters (transferringOf b x c a .action) ≡ true
+    → Undisturbed (b .vlenb) (transferringOf b x c a)
+transferring-undisturbed b x c a w t f l h r = mode-undisturbed b x c a _ w t f (a .mode) (f .mode) l h r
