@@ -2,20 +2,29 @@
 use Prim.Native.Nat.{ℕ, _<_, _+_, _%_, _^_}
 use mathlib.Core.Path.{_≡_, refl, sym, subst, _∙_}
 use mathlib.Core.Bool.{Bool, true, false, true≢false, false≢true, _&&_, _||_, cond}
-use mathlib.Core.List.{[], _∷_}
-use mathlib.Core.Logic.{inl, inr}
+use mathlib.Core.List.{List, [], _∷_}
+use mathlib.Core.Logic.{inl, inr, ⊎-elim}
 use native.Mathlib.Omega.{arith}
 use lib.Dec.{eqb}
 use types.Run.{OneOf}
 use borrow.Author.Tests.{eqb-true}
+use Rattle.laws.proofs.Apart.{both-left, both-right, or-cases}
+use Rattle.laws.proofs.Chain.{or-left, or-right}
+use Rattle.operation.specs.declared.Op.the-variants.{Vmv}
+use Rattle.operation.specs.declared.Size.{Size}
+use Rattle.operation.specs.declared.Size.the-variants.{Absent, Bit, Eighth, Quarter, Half, Single, Double}
+use Rattle.operation.specs.Shape.{shapeOf}
+use Rattle.decode.specs.declared.Source.{Source}
+use Rattle.decode.specs.declared.Source.the-variants.{Vector, Scalar, Immediate}
 use Rattle.decode.specs.declared.Mode.{Mode}
 use Rattle.decode.specs.declared.Mode.the-variants as M
 use Rattle.decode.specs.declared.Instruction.{Instruction}
 use Rattle.decode.specs.declared.Instruction.the-variants as I
 use Rattle.decode.specs.declared.Entry.{Entry}
 use Rattle.decode.specs.declared.Entry.the-variants.{Reserved, Operation, OnMask, MergeOrMove, Vxunary0, Vwxunary0, Vmunary0}
-use Rattle.decode.specs.Word.{funct3, sourceOf, namedOf, arithmeticOf, avlOf, settingOf, widthOf, access, plainOf, maskOf, wholeOf, unitOf, memoryOf, decodeOf}
-use Rattle.decode.specs.Fields.{SourceFits, AvlFits, ModeFits, Fits}
+use Rattle.decode.specs.Word.{funct3, funct6, rs2, vm, masked, vmFits, sourceOf, resolvedOf, namedOf, arithmeticOf, avlOf, settingOf, widthOf, access, plainOf, maskOf, wholeOf, unitOf, memoryOf, decodeOf}
+use Rattle.decode.specs.Listing.{Row, listing, find, keep, inColumn, entryOf}
+use Rattle.decode.specs.Fields.{SourceFits, SizeFits, ArithmeticFits, MaskFits, AvlFits, TypeFits, SettingFits, ModeFits, AccessFits, Fits}
 
 -- both ways of a test
 either : {A : Type 0} (P : A → Type 0) (b : Bool) (x y : A) → (b ≡ true → P x) → (b ≡ false → P y) → P (cond b x y)
@@ -37,14 +46,100 @@ source-fits : (w : ℕ) → SourceFits (sourceOf w)
 unfolding sourceOf
 source-fits w = search (either SourceFits, five-bits)
 
-named-fits : (e : Entry) (w : ℕ) → Fits (namedOf e w)
-named-fits Reserved w = tt
-named-fits (Operation op) w = search (either Fits, source-fits, five-bits)
-named-fits (OnMask op) w = search five-bits
-named-fits MergeOrMove w = tt
-named-fits Vxunary0 w = tt
-named-fits Vwxunary0 w = tt
-named-fits Vmunary0 w = tt
+-- what stands in the listing's columns of scalars and immediates
+
+abbrev isSingle : Size → Bool
+isSingle Absent = false
+isSingle Bit = false
+isSingle Eighth = false
+isSingle Quarter = false
+isSingle Half = false
+isSingle Single = true
+isSingle Double = false
+
+single : (z : Size) → isSingle z ≡ true → z ≡ Single
+single Absent h = cc
+single Bit h = cc
+single Eighth h = cc
+single Quarter h = cc
+single Half h = cc
+single Single h = refl
+single Double h = cc
+
+abbrev takesNumber : Entry → Bool
+takesNumber Reserved = true
+takesNumber (Operation op) = isSingle (shapeOf op .vs1)
+takesNumber (OnMask op) = true
+takesNumber MergeOrMove = true
+takesNumber Vxunary0 = false
+takesNumber Vwxunary0 = false
+takesNumber Vmunary0 = false
+
+abbrev all : List Row → Bool
+all [] = true
+all (r ∷ rs) = takesNumber (r .entry) && all rs
+
+find-all : (rs : List Row) (k : ℕ) → all rs ≡ true → takesNumber (find rs k) ≡ true
+unfolding find
+find-all [] k h = refl
+find-all (r ∷ rs) k h =
+    either (λ (e : Entry). takesNumber e ≡ true) (eqb k (r .number)) (r .entry) (find rs k)
+    (λ t. both-left (takesNumber (r .entry)) (all rs) h) (λ t. find-all rs k (both-right (takesNumber (r .entry)) (all rs) h))
+
+-- funct3 of OPIVI, OPIVX and OPMVX
+abbrev ofNumber : ℕ → Bool
+ofNumber f = eqb f 3 || (eqb f 4 || eqb f 6)
+
+column : (f k : ℕ) → ofNumber f ≡ true → takesNumber (entryOf f k) ≡ true
+unfolding entryOf listing
+column f k h =
+    let P : ℕ → Type 0 = λ n. takesNumber (entryOf n k) ≡ true in
+    ⊎-elim (λ t. subst P (sym (eqb-true f 3 t)) (find-all (keep (inColumn 3) listing) k refl))
+    (λ h. ⊎-elim (λ t. subst P (sym (eqb-true f 4 t)) (find-all (keep (inColumn 4) listing) k refl))
+    (λ t. subst P (sym (eqb-true f 6 t)) (find-all (keep (inColumn 6) listing) k refl))
+    (or-cases (eqb f 4) _ h))
+    (or-cases (eqb f 3) _ h)
+
+resolved : (e : Entry) (w : ℕ) → takesNumber e ≡ true → takesNumber (resolvedOf e w) ≡ true
+unfolding resolvedOf
+resolved Reserved w h = h
+resolved (Operation op) w h = h
+resolved (OnMask op) w h = h
+resolved MergeOrMove w h =
+    let P : Entry → Type 0 = λ e. takesNumber e ≡ true in
+    either P (masked w) _ _ (λ t. refl) (λ t. either P (eqb (rs2 w) 0) (Operation Vmv) Reserved (λ t. refl) (λ t. refl))
+resolved Vxunary0 w h = cc
+resolved Vwxunary0 w h = cc
+resolved Vmunary0 w h = cc
+
+source-sized : (z : Size) (w : ℕ) → (ofNumber (funct3 w) ≡ true → z ≡ Single) → SizeFits z (sourceOf w)
+unfolding sourceOf
+source-sized z w f =
+    either (SizeFits z) (eqb (funct3 w) 3) _ _ (λ t. f (or-left (eqb (funct3 w) 3) _ t))
+    (λ n. either (SizeFits z) (eqb (funct3 w) 4 || eqb (funct3 w) 6) _ _ (λ t. f (or-right (eqb (funct3 w) 3) _ n t)) (λ t. tt))
+
+named-fits : (e : Entry) (w : ℕ) → (ofNumber (funct3 w) ≡ true → takesNumber e ≡ true) → Fits (namedOf e w)
+named-fits Reserved w f = tt
+named-fits (Operation op) w f =
+    either Fits (vmFits (shapeOf op .v0) (vm w)) _ I.Illegal
+    (λ t. record {
+      vd = five-bits _;
+      vs2 = five-bits _;
+      source = source-fits w;
+      size = source-sized (shapeOf op .vs1) w (λ n. single (shapeOf op .vs1) (f n));
+    })
+    (λ t. tt)
+named-fits (OnMask op) w f = search five-bits
+named-fits MergeOrMove w f = tt
+named-fits Vxunary0 w f = tt
+named-fits Vwxunary0 w f = tt
+named-fits Vmunary0 w f = tt
+
+arithmetic-fits : (w : ℕ) → Fits (arithmeticOf w)
+unfolding arithmeticOf
+arithmetic-fits w =
+    named-fits (resolvedOf (entryOf (funct3 w) (funct6 w)) w) w
+    (λ n. resolved (entryOf (funct3 w) (funct6 w)) w (column (funct3 w) (funct6 w) n))
 
 -- ---- setting
 
@@ -109,8 +204,8 @@ memory-fits store w = search (either Fits, unit-fits, access-fits, left-false, f
 -- ---- every word
 
 pub fits : (w : ℕ) → Fits (decodeOf w)
-unfolding decodeOf arithmeticOf
-fits w = search (either Fits, setting-fits, named-fits, memory-fits)
+unfolding decodeOf
+fits w = search (either Fits, setting-fits, arithmetic-fits, memory-fits)
 
 -- what a decoded word is found to be, as in an arm of a `match` on it
 pub arm-fits : (w : ℕ) (r i : Instruction) → r ≡ decodeOf w → r ≡ i → Fits i

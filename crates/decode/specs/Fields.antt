@@ -1,7 +1,11 @@
 -- What the fields of a decoded word are within: registers and immediates below 32, EEW 8 to 64, 1, 2, 4 or 8 whole registers.
 use Prim.Native.Nat.{_<_, _^_}
 use mathlib.Core.List.{[], _∷_}
+use mathlib.Core.Path.{_≡_}
 use types.Run.{OneOf}
+use Rattle.operation.specs.declared.Size.{Size}
+use Rattle.operation.specs.declared.Size.the-variants.{Single}
+use Rattle.operation.specs.Shape.{shapeOf}
 use Rattle.decode.specs.declared.Source.{Source}
 use Rattle.decode.specs.declared.Source.the-variants.{Vector, Scalar, Immediate}
 use Rattle.decode.specs.declared.AvlSource.{AvlSource}
@@ -22,10 +26,17 @@ SourceFits (Vector r) = r < 32
 SourceFits (Scalar r) = r < 32
 SourceFits (Immediate x) = x < 32
 
+-- a scalar or an immediate stands only for an operand of SEW bits
+abbrev pub SizeFits : Size → Source → Type 0
+SizeFits z (Vector r) = Unit {0}
+SizeFits z (Scalar r) = z ≡ Single
+SizeFits z (Immediate x) = z ≡ Single
+
 pub record ArithmeticFits (a : Arithmetic) : Type 0 where
   pub vd : a .vd < 32
   pub vs2 : a .vs2 < 32
   pub source : SourceFits (a .source)
+  pub size : SizeFits (shapeOf (a .op) .vs1) (a .source)
 
 pub record MaskFits (m : MaskInstruction) : Type 0 where
   pub rd : m .rd < 32

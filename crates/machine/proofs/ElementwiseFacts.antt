@@ -3,13 +3,12 @@ use Prim.Native.Nat.{ℕ, _*_, _/_, _≤_, _<_}
 use mathlib.Core.Path.{_≡_, refl, sym, subst}
 use mathlib.Core.Logic.{⊎-elim}
 use mathlib.Core.List.{List, [], _∷_}
-use mathlib.Core.Bool.{Bool, true, false, not, _||_, cond, or-true}
+use mathlib.Core.Bool.{Bool, true, false, not, _||_, cond}
 use native.Mathlib.Omega.{arith}
 use native.Mathlib.Nat.{div-le-of-le-mul, mul-le-mul-right}
 use lib.Dec.{T, eqb, lit≤}
 use types.Run.{OneOf}
 use Rattle.laws.proofs.Apart.{both-left, both-right}
-use Rattle.laws.proofs.Chain.{or-left}
 use Rattle.operation.specs.declared.Size.{Size}
 use Rattle.operation.specs.declared.Size.the-variants.{Absent, Bit, Eighth, Quarter, Half, Single, Double}
 use Rattle.operation.specs.declared.V0.{V0}
@@ -38,7 +37,7 @@ use Rattle.elementwise.specs.declared.Transfer.{Transfer}
 use Rattle.elementwise.specs.declared.Elementwise.{Elementwise}
 use Rattle.elementwise.specs.Elementwise.{groupAt, readAt, groupOf, secondOf, v0Read, computingOf, movingOf, byMode, transferringOf, readFits, writesRegisters, isBit, legalOf}
 use Rattle.machine.specs.Effect.{valueOf}
-use Rattle.machine.proofs.Geometry.{Power, power-of, product-power, quotient, quotient-low, sew-power, Extent, mask-extent, placed-extent, extent, overlap-apart, v0-apart}
+use Rattle.machine.proofs.Geometry.{Power, power-of, product-power, quotient-power, quotient-low, sew-power, Extent, mask-extent, placed-extent, extent, overlap-apart, v0-apart}
 
 -- ---- legality taken apart
 
@@ -49,7 +48,7 @@ pub record Legal (elen : ℕ) (writes : Bool) (e : Elementwise) : Type 0 where
   pub vd : readFits elen writes (e .dest) (e .vd) ≡ true
   pub v0 : (not writes || sparesV0 (e .masked || isBit (e .v0)) (e .dest)) ≡ true
 
-legal-at : (elen : ℕ) (e : Elementwise) → legalOf elen e ≡ true → Legal elen (writesRegisters (e .action)) e
+pub legal-at : (elen : ℕ) (e : Elementwise) → legalOf elen e ≡ true → Legal elen (writesRegisters (e .action)) e
 unfolding legalOf
 legal-at elen e h = search (both-left, both-right)
 
@@ -64,7 +63,7 @@ pub data Operand (v : ℕ) : Read → Type 0 where
   element : (eew reg : ℕ) → Power eew → Operand v (R.Element (groupAt v eew reg))
 
 part : (v k reg : ℕ) → 1 ≤ k → k ≤ 8 → Power k → Operand v (R.Element (groupAt v (sewOf v / k) reg))
-part v k reg l u p = element (sewOf v / k) reg (quotient (sewOf v) k (sew-power v) p (quotient-low (sewOf v) k l (omega (arith, sew-ge v))) .power)
+part v k reg l u p = element (sewOf v / k) reg (quotient-power (sewOf v) k (sew-power v) p (quotient-low (sewOf v) k l (omega (arith, sew-ge v))))
 
 read-operand : (v : ℕ) (size : Size) (reg : ℕ) → Operand v (readAt v size reg)
 unfolding readAt
@@ -104,16 +103,16 @@ unfolding valueOf
 constant-kept vlenb end d n file j i x l u = refl
 
 -- v0 as the mask or as an operand
-data OfV0 : Read → Type 0 where
-  unused : (n : ℕ) → OfV0 (R.Constant n)
+pub data OfV0 : Read → Type 0 where
+  unused : OfV0 (R.Constant 0)
   used : OfV0 (R.Bit 0)
 
 v0-of : (z : V0) (masked : Bool) → OfV0 (v0Read z masked)
-v0-of Masks masked = unused 0
+v0-of Masks masked = unused
 v0-of Carry masked = used
 v0-of MaybeCarry true = used
-v0-of MaybeCarry false = unused 0
-v0-of Unused masked = unused 0
+v0-of MaybeCarry false = unused
+v0-of Unused masked = unused
 
 bit-kept : (vlenb end : ℕ) (d : Group) → T (elementWidth (d .eew)) → end ≤ 8 * vlenb → (not (eqb (d .reg) 0) || eqb (d .eew) 1) ≡ true
     → Kept vlenb end d (R.Bit 0)
@@ -121,14 +120,22 @@ unfolding valueOf
 bit-kept vlenb end d t m h file j i x l u =
     Element.apart vlenb file (d .reg) (d .eew) j x 0 1 i t tt (v0-apart vlenb d j i l (omega arith) h)
 
-spared : (p : Bool) (d : Group) → p ≡ true → sparesV0 p d ≡ true → (not (eqb (d .reg) 0) || eqb (d .eew) 1) ≡ true
+spared : (p : Bool) (d : Group) → sparesV0 p d ≡ true → p ≡ true → (not (eqb (d .reg) 0) || eqb (d .eew) 1) ≡ true
 unfolding sparesV0
-spared p d e h = rw e at h
+spared true d h e = h
+spared false d h e = absurd (subst T (sym e) tt)
+
+mask-spared : (m : Bool) (r : Read) (d : Group) → sparesV0 (m || isBit r) d ≡ true → m ≡ true → (not (eqb (d .reg) 0) || eqb (d .eew) 1) ≡ true
+mask-spared m r d h e = spared (m || isBit r) d h (rw e)
+
+v0-spared : (m : Bool) (d : Group) → sparesV0 (m || true) d ≡ true → (not (eqb (d .reg) 0) || eqb (d .eew) 1) ≡ true
+v0-spared true d h = spared true d h refl
+v0-spared false d h = spared true d h refl
 
 v0-kept : (vlenb end : ℕ) (d : Group) (m : Bool) (r : Read) → T (elementWidth (d .eew)) → end ≤ 8 * vlenb → OfV0 r → sparesV0 (m || isBit r) d ≡ true
     → Kept vlenb end d r
-v0-kept vlenb end d m _ t l (unused n) h = constant-kept vlenb end d n
-v0-kept vlenb end d m _ t l used h = bit-kept vlenb end d t l (spared (m || true) d (or-true m) h)
+v0-kept vlenb end d m _ t l unused h = constant-kept vlenb end d 0
+v0-kept vlenb end d m _ t l used h = bit-kept vlenb end d t l (v0-spared m d h)
 
 -- ---- at a supported vtype v
 
@@ -159,19 +166,36 @@ module _ (b : Board) (v : ℕ) (w : Valid b) (h : supportedOf b v ≡ true) wher
         let q : placedOf (b .elen) g ≡ true = both-left (placedOf (b .elen) g) (mayOverlapOf d g) t in
         source-kept g (placed-extent b v w h eew p reg q) (both-right (placedOf (b .elen) g) (mayOverlapOf d g) t)
 
-  undisturbed : (e : Elementwise) (r : Read) → e .end ≤ vlmaxOf b v → Operand v r → e .dest ≡ groupOf r → Operand v (e .vs2) → Operand v (e .vs1) → Operand v (e .vd)
-      → OfV0 (e .v0) → Legal (b .elen) true e → Undisturbed (b .vlenb) e
-  undisturbed e r m o q o2 o1 od o0 l =
-      record {
-        vs2 = operand-kept (e .end) (e .dest) m x (e .vs2) o2 (l .vs2);
-        vs1 = operand-kept (e .end) (e .dest) m x (e .vs1) o1 (l .vs1);
-        vd = operand-kept (e .end) (e .dest) m x (e .vd) od (l .vd);
-        v0 = v0-kept (b .vlenb) (e .end) (e .dest) (e .masked) (e .v0) (x .width) (omega (arith, vlmax-le b v)) o0 (l .v0);
-        mask = λ t. bit-kept (b .vlenb) (e .end) (e .dest) (x .width) (omega (arith, vlmax-le b v)) (spared _ (e .dest) (or-left (e .masked) (isBit (e .v0)) t) (l .v0));
-      }
-    where
-      x : Extent (vlmaxOf b v) (b .vlenb) (e .dest)
-      x = subst (λ (g : Group). (eqb (g .eew) 1 || placedOf (b .elen) g) ≡ true → Extent (vlmaxOf b v) (b .vlenb) g) (sym q) (dest-extent r o) (l .dest)
+-- an instruction whose operands go by a supported vtype v
+pub record Typed (b : Board) (v : ℕ) (e : Elementwise) : Type 0 where
+  pub supported : supportedOf b v ≡ true
+  pub end : e .end ≤ vlmaxOf b v
+  pub written : Read
+  pub operand : Operand v written
+  pub dest : e .dest ≡ groupOf written
+  pub vs2 : Operand v (e .vs2)
+  pub vs1 : Operand v (e .vs1)
+  pub vd : Operand v (e .vd)
+  pub v0 : OfV0 (e .v0)
+
+pub typed-extent : (b : Board) (v : ℕ) (e : Elementwise) → Valid b → Typed b v e → (eqb (e .dest .eew) 1 || placedOf (b .elen) (e .dest)) ≡ true
+    → Extent (vlmaxOf b v) (b .vlenb) (e .dest)
+typed-extent b v e w y =
+    subst (λ (g : Group). (eqb (g .eew) 1 || placedOf (b .elen) g) ≡ true → Extent (vlmaxOf b v) (b .vlenb) g) (sym (y .dest))
+    (dest-extent b v w (y .supported) (y .written) (y .operand))
+
+undisturbed : (b : Board) (v : ℕ) (e : Elementwise) → Valid b → Typed b v e → Legal (b .elen) true e → Undisturbed (b .vlenb) e
+undisturbed b v e w y l =
+    let x = typed-extent b v e w y (l .dest) in
+    let most : e .end ≤ 8 * b .vlenb = omega (arith, y .end, vlmax-le b v) in
+    let kept = operand-kept b v w (y .supported) (e .end) (e .dest) (y .end) x in
+    record {
+      vs2 = kept (e .vs2) (y .vs2) (l .vs2);
+      vs1 = kept (e .vs1) (y .vs1) (l .vs1);
+      vd = kept (e .vd) (y .vd) (l .vd);
+      v0 = v0-kept (b .vlenb) (e .end) (e .dest) (e .masked) (e .v0) (x .width) most (y .v0) (l .v0);
+      mask = λ t. bit-kept (b .vlenb) (e .end) (e .dest) (x .width) most (mask-spared (e .masked) (e .v0) (e .dest) (l .v0) t);
+    }
 
 -- where vl is not 0, vtype is supported
 supported : (b : Board) (c : Control) → Possible b c → 0 < c .vl → (supportedOf b (c .vtype) ≡ true) × (c .vl ≤ vlmaxOf b (c .vtype))
@@ -183,32 +207,42 @@ pub computing-end : (b : Board) (x : List ℕ) (c : Control) (a : Arithmetic) �
 unfolding computingOf
 computing-end b x c a t = t .vl
 
+pub computing-typed : (b : Board) (x : List ℕ) (c : Control) (a : Arithmetic) → Possible b c → 0 < computingOf x c a .end → Typed b (c .vtype) (computingOf x c a)
+unfolding computingOf
+computing-typed b x c a t l =
+    let s = supported b c t l in
+    let d = read-operand (c .vtype) (shapeOf (a .op) .vd) (a .vd) in
+    record {
+      supported = s .0;
+      end = s .1;
+      written = readAt (c .vtype) (shapeOf (a .op) .vd) (a .vd);
+      operand = d;
+      dest = refl;
+      vs2 = read-operand (c .vtype) (shapeOf (a .op) .vs2) (a .vs2);
+      vs1 = second-operand x (c .vtype) (shapeOf (a .op) .vs1) (shapeOf (a .op) .shift) (a .source);
+      vd = if-operand (c .vtype) (shapeOf (a .op) .accumulates) (readAt (c .vtype) (shapeOf (a .op) .vd) (a .vd)) d;
+      v0 = v0-of (shapeOf (a .op) .v0) (a .masked);
+    }
+
 pub computing-undisturbed : (b : Board) (x : List ℕ) (c : Control) (a : Arithmetic) → Valid b → Possible b c → 0 < computingOf x c a .end
     → legalOf (b .elen) (computingOf x c a) ≡ true → Undisturbed (b .vlenb) (computingOf x c a)
 unfolding computingOf
 computing-undisturbed b x c a w t l h =
-    let s = supported b c t l in
-    let d = read-operand (c .vtype) (shapeOf (a .op) .vd) (a .vd) in
-    undisturbed b (c .vtype) w (s .0) (computingOf x c a) (readAt (c .vtype) (shapeOf (a .op) .vd) (a .vd)) (s .1) d refl
-    (read-operand (c .vtype) (shapeOf (a .op) .vs2) (a .vs2))
-    (second-operand x (c .vtype) (shapeOf (a .op) .vs1) (shapeOf (a .op) .shift) (a .source))
-    (if-operand (c .vtype) (shapeOf (a .op) .accumulates) _ d)
-    (v0-of (shapeOf (a .op) .v0) (a .masked))
-    (legal-facts (b .elen) (computingOf x c a) h refl)
+    undisturbed b (c .vtype) (computingOf x c a) w (computing-typed b x c a t l) (legal-facts (b .elen) (computingOf x c a) h refl)
 
 -- ---- loads and stores
 
-one-of : (P : ℕ → Type 0) (i j k l : ℕ) → P i → P j → P k → P l → (n : ℕ) → OneOf (i ∷ j ∷ k ∷ l ∷ []) n → P n
+pub one-of : (P : ℕ → Type 0) (i j k l : ℕ) → P i → P j → P k → P l → (n : ℕ) → OneOf (i ∷ j ∷ k ∷ l ∷ []) n → P n
 one-of P i j k l p q r s n h =
     ⊎-elim (λ e. subst P (sym e) p) (⊎-elim (λ e. subst P (sym e) q) (⊎-elim (λ e. subst P (sym e) r) (λ e. subst P (sym e) s))) h
 
 eew-power : (a : Access) → AccessFits a → Power (a .eew)
 eew-power a f = one-of Power 8 16 32 64 (power-of 3) (power-of 4) (power-of 5) (power-of 6) (a .eew) (f .eew)
 
-eew-width : (a : Access) → AccessFits a → T (elementWidth (a .eew))
+pub eew-width : (a : Access) → AccessFits a → T (elementWidth (a .eew))
 eew-width a f = one-of (λ n. T (elementWidth n)) 8 16 32 64 tt tt tt tt (a .eew) (f .eew)
 
-eew-low : (a : Access) → AccessFits a → 8 ≤ a .eew
+pub eew-low : (a : Access) → AccessFits a → 8 ≤ a .eew
 eew-low a f = one-of (λ n. 8 ≤ n) 8 16 32 64 (lit≤ tt) (lit≤ tt) (lit≤ tt) (lit≤ tt) (a .eew) (f .eew)
 
 not-store : (p : Bool) (t : Transfer) → writesRegisters (cond p (A.Store t) (A.Load t)) ≡ true → p ≡ false
@@ -229,15 +263,37 @@ module _ (b : Board) (x : List ℕ) (c : Control) (a : Access) (base : ℕ) (w :
 
   -- a group at the vtype, alone or beside a group of offsets
   grouped : (eew stride bytes : ℕ) (offset : Read) → Power eew → Operand (c .vtype) offset → 0 < c .vl
-      → (let e : Elementwise = movingOf a base (groupAt (c .vtype) eew (a .vd)) offset stride bytes (c .vl) in
-      legalOf (b .elen) e ≡ true → writesRegisters (e .action) ≡ true → Undisturbed (b .vlenb) e)
+      → Typed b (c .vtype) (movingOf a base (groupAt (c .vtype) eew (a .vd)) offset stride bytes (c .vl))
   unfolding movingOf
-  grouped eew stride bytes offset p o l h r =
-      let e : Elementwise = movingOf a base (groupAt (c .vtype) eew (a .vd)) offset stride bytes (c .vl) in
+  grouped eew stride bytes offset p o l =
       let s = supported b c t l in
       let d = element eew (a .vd) p in
-      undisturbed b (c .vtype) w (s .0) e (R.Element (groupAt (c .vtype) eew (a .vd))) (s .1) d refl
-      o (constant 0) (if-operand (c .vtype) (a .store) _ d) (unused 0) (legal-facts (b .elen) e h r)
+      record {
+        supported = s .0;
+        end = s .1;
+        written = R.Element (groupAt (c .vtype) eew (a .vd));
+        operand = d;
+        dest = refl;
+        vs2 = o;
+        vs1 = constant 0;
+        vd = if-operand (c .vtype) (a .store) (R.Element (groupAt (c .vtype) eew (a .vd))) d;
+        v0 = unused;
+      }
+
+  abbrev Goes : Mode → Type 0
+  Goes m = Typed b (c .vtype) (byMode b x c a base m)
+
+  pub unit-typed : 0 < c .vl → Goes M.Unit
+  unfolding byMode
+  unit-typed = grouped (a .eew) _ _ (R.Constant 0) (eew-power a f) (constant 0)
+
+  pub strided-typed : (r : ℕ) → 0 < c .vl → Goes (M.Strided r)
+  unfolding byMode
+  strided-typed r = grouped (a .eew) _ _ (R.Constant 0) (eew-power a f) (constant 0)
+
+  pub indexed-typed : (r : ℕ) → 0 < c .vl → Goes (M.Indexed r)
+  unfolding byMode
+  indexed-typed r = grouped (sewOf (c .vtype)) _ _ (R.Element (groupAt (c .vtype) (a .eew) r)) (sew-power (c .vtype)) (element (a .eew) r (eew-power a f))
 
   -- registers whatever the vtype: they are beside no other operand than the mask
   alone : (g : Group) (stride bytes end : ℕ) → T (elementWidth (g .eew)) → end ≤ 8 * b .vlenb
@@ -252,17 +308,16 @@ module _ (b : Board) (x : List ℕ) (c : Control) (a : Access) (base : ℕ) (w :
         vs1 = none 0;
         vd = subst (λ (p : Bool). Kept (b .vlenb) end g (cond p (R.Element g) (R.Constant 0))) (sym (not-store (a .store) _ r)) (none 0);
         v0 = none 0;
-        mask = λ q. bit-kept (b .vlenb) end g k m (spared _ g (or-left (a .masked) false q) (legal-facts (b .elen) e h r .v0));
+        mask = λ q. bit-kept (b .vlenb) end g k m (mask-spared (a .masked) (R.Constant 0) g (legal-facts (b .elen) e h r .v0) q);
       }
 
   mode-undisturbed : (m : Mode) → ModeFits m
       → (let e : Elementwise = byMode b x c a base m in
       0 < e .end → legalOf (b .elen) e ≡ true → writesRegisters (e .action) ≡ true → Undisturbed (b .vlenb) e)
   unfolding byMode movingOf
-  mode-undisturbed M.Unit n l h r = grouped (a .eew) _ _ (R.Constant 0) (eew-power a f) (constant 0) l h r
-  mode-undisturbed (M.Strided k) n l h r = grouped (a .eew) _ _ (R.Constant 0) (eew-power a f) (constant 0) l h r
-  mode-undisturbed (M.Indexed k) n l h r =
-      grouped (sewOf (c .vtype)) _ _ (R.Element (groupAt (c .vtype) (a .eew) k)) (sew-power (c .vtype)) (element (a .eew) k (eew-power a f)) l h r
+  mode-undisturbed M.Unit n l h r = undisturbed b (c .vtype) _ w (unit-typed l) (legal-facts (b .elen) _ h r)
+  mode-undisturbed (M.Strided k) n l h r = undisturbed b (c .vtype) _ w (strided-typed k l) (legal-facts (b .elen) _ h r)
+  mode-undisturbed (M.Indexed k) n l h r = undisturbed b (c .vtype) _ w (indexed-typed k l) (legal-facts (b .elen) _ h r)
   mode-undisturbed M.MaskBytes n l h r = alone _ _ _ _ tt (mode-end M.MaskBytes n) h r
   mode-undisturbed (M.Whole k) n l h r = alone _ _ _ _ (eew-width a f) (mode-end (M.Whole k) n) h r
 

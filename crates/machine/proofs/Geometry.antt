@@ -21,7 +21,7 @@ use Rattle.layout.specs.Layout.{elementWidth}
 use Rattle.layout.proofs.ElementLaws.{Apart}
 use Rattle.group.specs.declared.Group.{Group}
 use Rattle.group.specs.Group.{emul8Of, maskGroup, registersOf, placedOf, mayOverlapOf}
-use Rattle.group.proofs.GroupLaws.{Placed, placed-facts, MayOverlap, below, above, equal, lowest, highest, overlap-cases, same-or-apart}
+use Rattle.group.proofs.GroupLaws.{Placed, placed-facts, MayOverlap, below, above, equal, lowest, highest, overlap-cases, same-or-apart, ends-inside}
 use Rattle.elementwise.specs.Elementwise.{groupAt}
 
 -- ---- powers of 2
@@ -37,9 +37,9 @@ pub product-power : (n m : ℕ) → Power n → Power m → Power (n * m)
 product-power n m p q = record { exponent = p .exponent + q .exponent; is = rw (p .is, q .is, pow-add) }
 
 -- a quotient that is not 0 is exact
-pub record Quotient (n m : ℕ) : Type 0 where
-  pub power : Power (n / m)
-  pub exact : n / m * m ≡ n
+record Quotient (n m : ℕ) : Type 0 where
+  power : Power (n / m)
+  exact : n / m * m ≡ n
 
 quotient-of : (a b : ℕ) → 1 ≤ 2 ^ a / 2 ^ b → Quotient (2 ^ a) (2 ^ b)
 quotient-of a b h = by-order (decLt a b) where
@@ -50,14 +50,14 @@ quotient-of a b h = by-order (decLt a b) where
       let q : 2 ^ a / 2 ^ b ≡ 2 ^ (a - b) = ap (λ (n : ℕ). n / 2 ^ b) e ∙ shl-shr (2 ^ (a - b)) b in
       record { power = record { exponent = a - b; is = q }; exact = ap (λ (n : ℕ). n * 2 ^ b) q ∙ sym e }
 
-pub quotient : (n m : ℕ) → Power n → Power m → 1 ≤ n / m → Quotient n m
+quotient : (n m : ℕ) → Power n → Power m → 1 ≤ n / m → Quotient n m
 quotient n m p q h = rw (p .is, q .is) (quotient-of (p .exponent) (q .exponent) (rw (p .is, q .is) at h))
 
-pub quotient-low : (n m : ℕ) → 1 ≤ m → m ≤ n → 1 ≤ n / m
-quotient-low n m p h = by-order (decLt 0 (n / m)) where
-  by-order : Dec (0 < n / m) → 1 ≤ n / m
-  by-order (yes l) = l
-  by-order (no l) = let e : n / m * m ≡ 0 * m = ap (λ (k : ℕ). k * m) (omega arith) in absurd (omega (arith, div-add-mod' n m, mod-lt n p))
+pub quotient-power : (n m : ℕ) → Power n → Power m → 1 ≤ n / m → Power (n / m)
+quotient-power n m p q h = quotient n m p q h .power
+
+pub quotient-exact : (n m : ℕ) → Power n → Power m → 1 ≤ n / m → n / m * m ≡ n
+quotient-exact n m p q h = quotient n m p q h .exact
 
 -- EEWs are powers of 2 from 8 to 64
 width-at : (e : ℕ) → 8 ≤ 2 ^ e → 2 ^ e ≤ 64 → T (elementWidth (2 ^ e))
@@ -73,6 +73,12 @@ width-at (suc (suc (suc (suc (suc (suc (suc e))))))) h k =
 
 power-width : (n : ℕ) → Power n → 8 ≤ n → n ≤ 64 → T (elementWidth n)
 power-width n p h k = subst (λ m. T (elementWidth m)) (sym (p .is)) (width-at (p .exponent) (rw (p .is) at h) (rw (p .is) at k))
+
+exponent-le : (n e : ℕ) → n ≡ 2 ^ e → n ≤ 64 → e ≤ 6
+exponent-le n e p h = by-order (decLt 6 e) where
+  by-order : Dec (6 < e) → e ≤ 6
+  by-order (yes l) = let m : 2 ^ 7 ≤ 2 ^ e = pow-mono {i = 7} l in absurd (omega arith)
+  by-order (no l) = omega arith
 
 -- ---- SEW and LMUL are powers of 2
 
@@ -118,12 +124,18 @@ lmul8-pos b v w h = by-order (decLt 0 (lmul8Of v)) where
       let e : lmul8Of v * b .vlenb ≡ 0 * b .vlenb = ap (λ (n : ℕ). n * b .vlenb) (omega arith) in
       absurd (omega (arith, sew-le-all b v w h, sew-ge v))
 
+pub quotient-low : (n m : ℕ) → 1 ≤ m → m ≤ n → 1 ≤ n / m
+quotient-low n m p h = by-order (decLt 0 (n / m)) where
+  by-order : Dec (0 < n / m) → 1 ≤ n / m
+  by-order (yes l) = l
+  by-order (no l) = let e : n / m * m ≡ 0 * m = ap (λ (k : ℕ). k * m) (omega arith) in absurd (omega (arith, div-add-mod' n m, mod-lt n p))
+
 vlmax-exact : (b : Board) (v : ℕ) → Valid b → supportedOf b v ≡ true → vlmaxOf b v * sewOf v ≡ lmul8Of v * b .vlenb
 unfolding vlmaxOf
 vlmax-exact b v w h =
-    quotient (lmul8Of v * b .vlenb) (sewOf v)
+    quotient-exact (lmul8Of v * b .vlenb) (sewOf v)
     (product-power (lmul8Of v) (b .vlenb) (lmul8-power v (lmul8-pos b v w h)) (record { exponent = w .lenb; is = w .power }))
-    (sew-power v) (quotient-low _ _ (omega (arith, sew-ge v)) (sew-le-all b v w h)) .exact
+    (sew-power v) (quotient-low _ _ (omega (arith, sew-ge v)) (sew-le-all b v w h))
 
 -- ---- the extent of a group
 
@@ -132,9 +144,16 @@ pub record Extent (vlmax vlenb : ℕ) (g : Group) : Type 0 where
   pub aligned : g .reg % registersOf g ≡ 0
   pub within : vlmax * g .eew ≤ registersOf g * (8 * vlenb)
   pub full : 8 ≤ g .emul8 → vlmax * g .eew ≡ registersOf g * (8 * vlenb)
+  pub ends : g .reg < 32 → g .reg + registersOf g ≤ 32
+
+-- a group that is well placed ends at or below v31
+pub placed-ends : (elen : ℕ) (g : Group) → Power (g .emul8) → placedOf elen g ≡ true → g .reg < 32 → g .reg + registersOf g ≤ 32
+placed-ends elen g p t l =
+    let f : Placed elen g = placed-facts elen g t in
+    ends-inside g (p .exponent) (exponent-le (g .emul8) (p .exponent) (p .is) (f .emul-high)) (p .is) l (f .aligned)
 
 pub mask-extent : (b : Board) (v reg : ℕ) → Extent (vlmaxOf b v) (b .vlenb) (maskGroup reg)
-mask-extent b v reg = record { width = tt; aligned = omega arith; within = omega (arith, vlmax-le b v); full = λ l. omega arith }
+mask-extent b v reg = record { width = tt; aligned = omega arith; within = omega (arith, vlmax-le b v); full = λ l. omega arith; ends = λ l. omega arith }
 
 -- of a group at a supported vtype
 module _ (b : Board) (v : ℕ) (w : Valid b) (h : supportedOf b v ≡ true) (eew : ℕ) (p : Power eew) where
@@ -153,15 +172,16 @@ module _ (b : Board) (v : ℕ) (w : Valid b) (h : supportedOf b v ≡ true) (eew
 
   registers-whole : 8 ≤ emul8 → max 1 (emul8 / 8) * 8 ≡ emul8
   unfolding emul8Of
-  registers-whole l = omega (arith, quotient emul8 8 (emul8-quotient (omega arith) .power) (power-of 3) (omega arith) .exact)
+  registers-whole l = omega (arith, quotient-exact emul8 8 (emul8-quotient (omega arith) .power) (power-of 3) (omega arith))
 
   module _ (reg : ℕ) where
     abbrev g : Group
     g = groupAt v eew reg
 
     -- a group of one register may have room to spare
-    extent-if : T (elementWidth eew) → g .reg % registersOf g ≡ 0 → (emul8 < 8 → vlmaxOf b v * eew ≤ 8 * b .vlenb) → Extent (vlmaxOf b v) (b .vlenb) g
-    extent-if t a small = record { width = t; aligned = a; within = by-size (decLt emul8 8); full = full } where
+    extent-if : T (elementWidth eew) → g .reg % registersOf g ≡ 0 → (emul8 < 8 → vlmaxOf b v * eew ≤ 8 * b .vlenb) → (reg < 32 → reg + registersOf g ≤ 32)
+        → Extent (vlmaxOf b v) (b .vlenb) g
+    extent-if t a small ends = record { width = t; aligned = a; within = by-size (decLt emul8 8); full = full; ends = ends } where
       full : 8 ≤ emul8 → vlmaxOf b v * eew ≡ registersOf g * (8 * b .vlenb)
       full l = omega (arith, filled (omega arith), ap (λ (n : ℕ). n * b .vlenb) (registers-whole l))
 
@@ -172,16 +192,18 @@ module _ (b : Board) (v : ℕ) (w : Valid b) (h : supportedOf b v ≡ true) (eew
       by-size (no l) = omega (arith, full (omega arith))
 
     pub placed-extent : placedOf (b .elen) g ≡ true → Extent (vlmaxOf b v) (b .vlenb) g
+    unfolding emul8Of
     placed-extent t =
         let f : Placed (b .elen) g = placed-facts (b .elen) g t in
         extent-if (power-width eew p (f .eew-low) (omega (arith, f .eew-high, w .elen))) (f .aligned)
         (λ l. omega (arith, filled (f .emul-low), mul-le-mul-right (b .vlenb) l))
+        (placed-ends (b .elen) g (emul8-quotient (f .emul-low) .power) t)
 
     -- elements of one bit
     bit-extent : eew ≡ 1 → Extent (vlmaxOf b v) (b .vlenb) g
     unfolding emul8Of
     bit-extent e =
-        extent-if (subst (λ n. T (elementWidth n)) (sym e) tt) (ap (λ (n : ℕ). reg % n) one ∙ mod-one) (λ l. omega (arith, vlmax-le b v, ap (λ (n : ℕ). vlmaxOf b v * n) e))
+        extent-if (subst (λ n. T (elementWidth n)) (sym e) tt) (ap (λ (n : ℕ). reg % n) one ∙ mod-one) (λ l. omega (arith, vlmax-le b v, ap (λ (n : ℕ). vlmaxOf b v * n) e)) (λ l. omega (arith, one))
       where
         most : emul8 ≤ 8
         most = div-le-of-le-mul (sewOf v) (omega (arith, ap (λ (n : ℕ). n * lmul8Of v) e, lmul8-le v, sew-ge v))

@@ -10,7 +10,7 @@ use lib.Dec.{T, ltb}
 use borrow.Author.Tests.{ltb-true, ltb-false, le-ltb, lt-ltb}
 use native.Mathlib.Decide.{decLt}
 use native.Mathlib.Nat.{add-zero, add-suc, suc-add, zero-add, le-refl}
-use Rattle.turns.specs.Turn.{Effect, idle, fault, write, faults, Instruction, finished, paused, trapped, refused, Point, Outcome, Turn, carry, written, clean, until, trap, remaining, passing, ended, legal, answered, turn, turns, inPlace, NoneFinishes, Opening, lastRights, uncutAllowance, oneTurn}
+use Rattle.turns.specs.Turn.{Effect, idle, fault, write, faults, Instruction, finished, paused, trapped, refused, Point, Outcome, Turn, carry, written, clean, until, trap, remaining, passing, ended, legal, answered, turn, turns, inPlace, NoneFinishes, Opening, lastRights, uncutAllowance}
 use Rattle.turns.specs.Claims.{Lawful, Progress, passes, traps, finishes, Splits, InPlace, Progresses, Monotone, Uncut}
 
 until-le : (b : Bool) (k n : ℕ) → k ≤ n → until b k ≤ suc n
@@ -402,6 +402,23 @@ module _ (I : Instruction) (L : Lawful I) where
       x .1 ∙ sym (runs-done I (record { rights = r; allowance = uncutAllowance }) p (x .0)
       (omega (arith, L .bounded r (p .state) (p .vstart) (x .0 .is-legal))))
 
+-- ---- turns of any instruction, lawful or not
+module _ (I : Instruction) (t : Turn I) (p : Point I) where
+  -- a turn that is refused
+  pub turn-refused : (x : I .Refusal) → I .refusal (t .rights) (p .state) (p .vstart) ≡ some x
+      → turn I t p ≡ record { ending = refused x; passed = zero; after = p }
+  unfolding turn
+  turn-refused x h = rw h
+
+  -- a legal turn with no elements finishes at once, at any allowance, with nothing passed
+  pub one-turn : I .refusal (t .rights) (p .state) (p .vstart) ≡ none → I .count (p .state) ≡ zero
+      → turn I t p ≡ record { ending = finished; passed = zero; after = record { state = I .finish (p .state); vstart = zero } }
+  unfolding turn written clean
+  one-turn h e =
+      let z : zero - p .vstart ≡ zero = omega arith in
+      let m : min (t .allowance) zero ≡ zero = omega arith in
+      rw (h, e, z, m)
+
 -- ---- for the code: a loop that has passed k elements of the turn t from p, and whose state is now s
 pub record Passed (I : Instruction) (t : Turn I) (p : Point I) (k : ℕ) (s : I .State) : Type 0 where
   pub is-legal : I .refusal (t .rights) (p .state) (p .vstart) ≡ none
@@ -410,12 +427,6 @@ pub record Passed (I : Instruction) (t : Turn I) (p : Point I) (k : ℕ) (s : I 
   pub now : s ≡ passing I (t .rights) p k
 
 module _ (I : Instruction) (L : Lawful I) (t : Turn I) (p : Point I) where
-  -- a turn that is refused
-  pub turn-refused : (x : I .Refusal) → I .refusal (t .rights) (p .state) (p .vstart) ≡ some x
-      → turn I t p ≡ record { ending = refused x; passed = zero; after = p }
-  unfolding turn
-  turn-refused x h = rw h
-
   pub passed-none : I .refusal (t .rights) (p .state) (p .vstart) ≡ none → Passed I t p zero (p .state)
   unfolding written
   passed-none h = record { is-legal = h; within = omega arith; no-fault = λ j a b. absurd (omega arith); now = refl }
@@ -472,29 +483,3 @@ module _ (I : Instruction) (L : Lawful I) (t : Turn I) (p : Point I) where
     passed-finish e =
         let m : min (t .allowance) (remaining I p) ≡ k = omega (arith, h .within) in
         rw (h .is-legal, m, passed-clean, le-ltb k k (le-refl k), le-ltb k (remaining I p) (omega arith), ← h .now)
-
--- ---- an instruction with no elements
-module _ (S R F N : Type 0) (refusal : R → S → ℕ → Option N) (results : S → S) (opens : R → R → Type 0) where
-  pub one-turn-lawful : ((r r′ : R) (s : S) (v : ℕ) → opens r r′ → refusal r s v ≡ none → refusal r′ s v ≡ none)
-      → ((r r′ r″ : R) → opens r r′ → opens r′ r″ → opens r r″) → ((r : R) → opens r r) → Lawful (oneTurn S R F N refusal results opens)
-  one-turn-lawful raised trans refl′ = record {
-    stable = λ r s v j i w h l u e. refl;
-    put-count = λ w s. refl;
-    put-legal = λ r w s v h. h;
-    raised = λ r r′ s i o h. refl;
-    raised-legal = raised;
-    bounded = λ r s v h. omega arith;
-    opens-trans = trans;
-    opens-refl = refl′;
-  }
-
-  -- a legal turn finishes at once, at any allowance, with nothing passed
-  pub one-turn : (t : Turn (oneTurn S R F N refusal results opens)) (p : Point (oneTurn S R F N refusal results opens))
-      → refusal (t .rights) (p .state) (p .vstart) ≡ none
-      → turn (oneTurn S R F N refusal results opens) t p
-      ≡ record { ending = finished; passed = zero; after = record { state = results (p .state); vstart = zero } }
-  unfolding turn written clean
-  one-turn t p h =
-      let e : zero - p .vstart ≡ zero = omega arith in
-      let m : min (t .allowance) zero ≡ zero = omega arith in
-      rw (h, e, m)

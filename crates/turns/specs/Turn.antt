@@ -58,22 +58,6 @@ pub record Instruction : Type 1 where
   -- the second rights are the first, or raised
   pub Opens : Rights → Rights → Type 0
 
--- An instruction with no elements: one turn, at any allowance, writes its results from the state before, and finishes.
-abbrev pub oneTurn : (S R F N : Type 0) → (R → S → ℕ → Option N) → (S → S) → (R → R → Type 0) → Instruction
-oneTurn S R F N refusal results opens = record {
-  State = S;
-  Rights = R;
-  Write = ⊥;
-  Fault = F;
-  Refusal = N;
-  refusal = refusal;
-  count = λ s. zero;
-  effect = λ r s i. idle;
-  put = λ w s. s;
-  finish = results;
-  Opens = opens;
-}
-
 -- a state between turns
 pub record Point (I : Instruction) : Type 0 where
   pub state : I .State

@@ -1,0 +1,16 @@
+use borrow.Author.Needs.{needs}
+use Rattle.control.proofs.Laws.{base-valid}
+use Rattle.turn.proofs.Turns.{on-base}
+use Rattle.turn.proofs.turn.Statement.{statement}
+use Rattle.turn.proofs.turn.Tie as tie
+
+pub turn-spec : {M : Type 1} → statement M
+turn-spec =
+    tie.close
+    (tie.spec
+    (λ c κs. search needs)
+    (λ c κs. search base-valid)
+    (λ c. search needs)
+    (λ c. search needs)
+    (λ c. search needs)
+    (λ c. search on-base))
