@@ -1,0 +1,399 @@
+// Runs instruction vectors through the public call. Standard input has records of lines: 'c' a case (word, allowance, vtype, vl, vstart,
+// vxrm, vxsat, and the lengths of the register file, the scalars, memory and the rights), 'x' a scalar, 'v' bytes of a register, 'p' the
+// right of a range of pages, and '.', upon which the turn is taken. For each it writes the answer, the number passed, the fault address, the
+// control record after, and every byte or scalar that has changed.
+ghost use mathlib.Core.Path.{_≡_};
+ghost use Prim.Native.Nat.{_≤_};
+ghost use lib.ListN.{length};
+use control::Control;
+use turn::Turned;
+
+// ---- the state that a case starts from, but for what its lines say
+
+// What has bytes.
+enum Bytes {
+    Registers,
+    Memory,
+    Rights,
+}
+
+fn register_byte(k: u64) -> u8 {
+    if 512 <= k {
+        return 0;
+    }
+    ((73 * k + 29) % 256) as u8
+}
+
+fn memory_byte(k: u64) -> u8 {
+    if 65536 <= k {
+        return 0;
+    }
+    (((167 * k + 59 * (k / 256) + 13) ^ (k / 8)) % 256) as u8
+}
+
+// Every page may be read and written.
+fn byte_at(what: Bytes, k: u64) -> u8 {
+    match what {
+        Bytes::Registers => register_byte(k),
+        Bytes::Memory => memory_byte(k),
+        Bytes::Rights => 2,
+    }
+}
+
+fn scalar_at(k: u64) -> u64 {
+    if k == 0 {
+        return 0x00f0_0d00_dead_beef;
+    }
+    if 32 <= k {
+        return 0;
+    }
+    std::num::wrapping_add_u64(width::mul64(k, 0x0123_4567_89ab_cdef), 0x55)
+}
+
+fn fill_bytes(what: Bytes, bytes: &mut [u8]) {
+    for k in 0..bytes.len() {
+        bytes[k] = byte_at(what, k as u64);
+    }
+}
+
+fn fill_scalars(scalars: &mut [u64]) {
+    for k in 0..scalars.len() {
+        scalars[k] = scalar_at(k as u64);
+    }
+}
+
+// Memory before every case.
+fn image() -> [u8; 131072]
+    ensures { λ r. ⌜ 131072 ≡ length r ⌝ }
+{
+    let mut memory = [0u8; 131072];
+    fill_bytes(Bytes::Memory, &mut memory);
+    memory
+}
+
+// ---- the lines of a case
+
+fn set_scalar(scalars: &mut [u64], line: &[u8]) {
+    let at = hexadecimal::number(line, 0, 2) as usize;
+    if at < scalars.len() {
+        scalars[at] = hexadecimal::number(line, 2, 16);
+    }
+}
+
+fn set_byte(bytes: &mut [u8], at: usize, byte: u8) {
+    if at < bytes.len() {
+        bytes[at] = byte;
+    }
+}
+
+fn set_register(registers: &mut [u8], line: &[u8]) {
+    let first = 16 * hexadecimal::number(line, 0, 2) as usize;
+    let n = hexadecimal::number(line, 2, 2) as u32;
+    for k in 0..n {
+        let byte = hexadecimal::number(line, 4 + 2 * k, 2) as u8;
+        set_byte(registers, first + k as usize, byte);
+    }
+}
+
+fn set_rights(rights: &mut [u8], line: &[u8]) {
+    let first = hexadecimal::number(line, 0, 3) as usize;
+    let last = hexadecimal::number(line, 3, 3) as usize;
+    let right = hexadecimal::number(line, 6, 2) as u8;
+    for k in first..last + 1 {
+        set_byte(rights, k, right);
+    }
+}
+
+// Each is set in the state that the turn takes, and in the state from before it.
+
+fn read_scalar(scalars: &mut [u64], before: &mut [u64]) {
+    let mut line = [0u8; 19];
+    let n = io::read_full(0, &mut line);
+    set_scalar(scalars, &line[..n]);
+    set_scalar(before, &line[..n]);
+}
+
+fn read_register(registers: &mut [u8], before: &mut [u8]) {
+    let mut line = [0u8; 37];
+    let n = io::read_full(0, &mut line);
+    set_register(registers, &line[..n]);
+    set_register(before, &line[..n]);
+}
+
+fn read_rights(rights: &mut [u8]) {
+    let mut line = [0u8; 9];
+    let n = io::read_full(0, &mut line);
+    set_rights(rights, &line[..n]);
+}
+
+// The newline.
+fn read_end() {
+    let mut line = [0u8; 1];
+    io::read_full(0, &mut line);
+}
+
+// ---- the turn, and what is written of it
+
+fn control_of(head: &[u8]) -> Control {
+    Control {
+        vtype: hexadecimal::number(head, 16, 16),
+        vl: hexadecimal::number(head, 32, 16),
+        vstart: hexadecimal::number(head, 48, 16),
+        vxrm: hexadecimal::number(head, 64, 16),
+        vxsat: hexadecimal::number(head, 80, 16),
+    }
+}
+
+fn space() {
+    io::write_all(1, b" ");
+}
+
+fn print_control(control: Control) {
+    io::print_hex(1, control.vtype, 1);
+    space();
+    io::print_decimal(1, control.vl);
+    space();
+    io::print_decimal(1, control.vstart);
+    space();
+    io::print_decimal(1, control.vxrm);
+    space();
+    io::print_decimal(1, control.vxsat);
+}
+
+fn print_turned(turned: Turned) {
+    let answer = turned.answer;
+    let control = turned.control;
+    io::print_decimal(1, answer::number(answer));
+    space();
+    io::print_decimal(1, turned.passed);
+    space();
+    io::print_hex(1, turned.address, 1);
+    space();
+    print_control(control);
+}
+
+fn print_byte(label: &[u8], at: u64, byte: u8) {
+    io::write_all(1, label);
+    io::print_hex(1, at, 1);
+    io::write_all(1, b"=");
+    io::print_hex(1, byte as u64, 2);
+}
+
+// The changed bytes, which are as before then.
+fn print_bytes(label: &[u8], bytes: &mut [u8], before: &[u8]) {
+    if before.len() < bytes.len() {
+        return;
+    }
+    for k in 0..bytes.len() {
+        if bytes[k] != before[k] {
+            print_byte(label, k as u64, bytes[k]);
+            bytes[k] = before[k];
+        }
+    }
+}
+
+fn print_scalar(at: u64, value: u64) {
+    io::write_all(1, b" x");
+    io::print_decimal(1, at);
+    io::write_all(1, b"=");
+    io::print_hex(1, value, 1);
+}
+
+fn print_scalars(scalars: &[u64], before: &[u64]) {
+    if before.len() < scalars.len() {
+        return;
+    }
+    for k in 0..scalars.len() {
+        if scalars[k] != before[k] {
+            print_scalar(k as u64, scalars[k]);
+        }
+    }
+}
+
+fn print_changes(
+    registers: &mut [u8],
+    scalars: &[u64],
+    memory: &mut [u8],
+    registers_before: &[u8],
+    scalars_before: &[u64],
+    memory_before: &[u8],
+) {
+    print_bytes(b" v", registers, registers_before);
+    print_scalars(scalars, scalars_before);
+    print_bytes(b" m", memory, memory_before);
+    io::write_all(1, b"\n");
+}
+
+fn take_turn(
+    head: &[u8],
+    registers: &mut [u8],
+    scalars: &mut [u64],
+    memory: &mut [u8],
+    rights: &[u8],
+    registers_before: &[u8],
+    scalars_before: &[u64],
+    memory_before: &[u8],
+) {
+    let word = hexadecimal::number(head, 0, 8) as u32;
+    let allowance = hexadecimal::number(head, 8, 8) as u32;
+    let control = control_of(head);
+    print_turned(turn::turn(word, allowance, registers, scalars, memory, rights, control));
+    print_changes(
+        registers,
+        scalars,
+        memory,
+        registers_before,
+        scalars_before,
+        memory_before,
+    );
+}
+
+// A length of a case, at most the room that there is.
+fn capped(n: u64, room: usize) -> usize
+    ensures { λ r. ⌜ r ≤ room ⌝ }
+{
+    if n as usize <= room { n as usize } else { room }
+}
+
+// The turn of a case, on the lengths that its first line says.
+fn finish(
+    head: &[u8],
+    registers: &mut [u8],
+    scalars: &mut [u64],
+    memory: &mut [u8],
+    rights: &[u8],
+    registers_before: &[u8],
+    scalars_before: &[u64],
+    memory_before: &[u8],
+) {
+    let of_registers = capped(hexadecimal::number(head, 96, 8), registers.len());
+    let of_scalars = capped(hexadecimal::number(head, 104, 8), scalars.len());
+    let of_memory = capped(hexadecimal::number(head, 112, 8), memory.len());
+    let of_rights = capped(hexadecimal::number(head, 120, 8), rights.len());
+    take_turn(
+        head,
+        &mut registers[..of_registers],
+        &mut scalars[..of_scalars],
+        &mut memory[..of_memory],
+        &rights[..of_rights],
+        registers_before,
+        scalars_before,
+        memory_before,
+    );
+}
+
+// ---- the whole
+
+// The first byte of a line, and 0 at the end of the input.
+fn read_kind() -> u8 {
+    let mut kind = [0u8; 1];
+    let n = io::read_full(0, &mut kind);
+    if n < 1 {
+        return 0;
+    }
+    kind[0]
+}
+
+fn start(
+    head: &mut [u8],
+    registers: &mut [u8],
+    scalars: &mut [u64],
+    rights: &mut [u8],
+    registers_before: &mut [u8],
+    scalars_before: &mut [u64],
+) {
+    io::read_full(0, head);
+    fill_bytes(Bytes::Registers, registers);
+    fill_bytes(Bytes::Registers, registers_before);
+    fill_scalars(scalars);
+    fill_scalars(scalars_before);
+    fill_bytes(Bytes::Rights, rights);
+}
+
+// The next line; false where there is none.
+fn step(
+    head: &mut [u8],
+    registers: &mut [u8],
+    scalars: &mut [u64],
+    memory: &mut [u8],
+    rights: &mut [u8],
+    registers_before: &mut [u8],
+    scalars_before: &mut [u64],
+    memory_before: &[u8],
+) -> bool {
+    match read_kind() {
+        99 => start(
+            head,
+            registers,
+            scalars,
+            rights,
+            registers_before,
+            scalars_before,
+        ),
+        120 => read_scalar(scalars, scalars_before),
+        118 => read_register(registers, registers_before),
+        112 => read_rights(rights),
+        46 => {
+            read_end();
+            finish(
+                head,
+                registers,
+                scalars,
+                memory,
+                rights,
+                registers_before,
+                scalars_before,
+                memory_before,
+            );
+        }
+        _ => return false,
+    }
+    true
+}
+
+fn read_lines(
+    head: &mut [u8],
+    registers: &mut [u8],
+    scalars: &mut [u64],
+    memory: &mut [u8],
+    rights: &mut [u8],
+    registers_before: &mut [u8],
+    scalars_before: &mut [u64],
+    memory_before: &[u8],
+) {
+    for _ in 0..1000000usize {
+        if !step(
+            head,
+            registers,
+            scalars,
+            memory,
+            rights,
+            registers_before,
+            scalars_before,
+            memory_before,
+        ) {
+            break;
+        }
+    }
+}
+
+fn main() {
+    let mut head = [0u8; 129];
+    let mut registers = [0u8; 1024];
+    let mut scalars = [0u64; 64];
+    let mut memory = image();
+    let mut rights = [0u8; 512];
+    let mut registers_before = [0u8; 1024];
+    let mut scalars_before = [0u64; 64];
+    let memory_before = image();
+    read_lines(
+        &mut head,
+        &mut registers,
+        &mut scalars,
+        &mut memory,
+        &mut rights,
+        &mut registers_before,
+        &mut scalars_before,
+        &memory_before,
+    );
+}
