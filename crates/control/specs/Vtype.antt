@@ -1,6 +1,6 @@
 -- vtype (section 4.4 of document 000): bits 2..0 vlmul, 5..3 vsew, 6 vta, 7 vma; vill is bit 63.
 use Prim.Native.Nat.{ℕ, _*_, _/_, _%_, _^_}
-use mathlib.Core.List.{List, [], _∷_}
+use mathlib.Core.List.{[], _∷_}
 use mathlib.Core.Bool.{Bool, not, _&&_, _||_}
 use lib.ListN.{getD}
 use lib.Dec.{ltb, leb, eqb}

@@ -49,7 +49,7 @@ const LMUL8: [u64; 8] = [8, 16, 32, 64, 0, 1, 2, 4];
 // SEW by vsew.
 const SEW: [u64; 8] = [8, 16, 32, 64, 128, 256, 512, 1024];
 
-fn smaller(a: u64, b: u64) -> u64
+pub fn smaller(a: u64, b: u64) -> u64
     ensures { λ r. ⌜ r ≡ min a b ⌝ }
 {
     if a < b { a } else { b }

@@ -1,6 +1,6 @@
 -- Document 01, 'Control panel': reads and writes by CSR number, in the order of its refusals.
 use Prim.Native.Nat.{ℕ, _+_, _*_, _/_, _%_}
-use mathlib.Core.Bool.{Bool, true, false, cond}
+use mathlib.Core.Bool.{cond}
 use lib.Dec.{eqb}
 use Rattle.answer.specs.declared.Answer.the-variants.{Finished, Illegal, BadControl}
 use Rattle.control.specs.declared.Board.{Board}

@@ -1,7 +1,7 @@
 -- Every field of a decoded word is in range.
 use Prim.Native.Nat.{ℕ, _<_, _+_, _%_, _^_}
 use mathlib.Core.Path.{_≡_, refl, sym, subst, _∙_}
-use mathlib.Core.Bool.{Bool, true, false, true≢false, false≢true, _&&_, _||_, cond}
+use mathlib.Core.Bool.{Bool, true, false, true≢false, _&&_, _||_}
 use mathlib.Core.List.{List, [], _∷_}
 use mathlib.Core.Logic.{inl, inr, ⊎-elim}
 use native.Mathlib.Omega.{arith}
@@ -9,27 +9,19 @@ use lib.Dec.{eqb}
 use types.Run.{OneOf}
 use borrow.Author.Tests.{eqb-true}
 use Rattle.laws.proofs.Apart.{both-left, both-right, or-cases}
-use Rattle.laws.proofs.Chain.{or-left, or-right}
+use Rattle.laws.proofs.Chain.{either, or-left, or-right}
 use Rattle.operation.specs.declared.Op.the-variants.{Vmv}
 use Rattle.operation.specs.declared.Size.{Size}
 use Rattle.operation.specs.declared.Size.the-variants.{Absent, Bit, Eighth, Quarter, Half, Single, Double}
 use Rattle.operation.specs.Shape.{shapeOf}
-use Rattle.decode.specs.declared.Source.{Source}
-use Rattle.decode.specs.declared.Source.the-variants.{Vector, Scalar, Immediate}
 use Rattle.decode.specs.declared.Mode.{Mode}
-use Rattle.decode.specs.declared.Mode.the-variants as M
 use Rattle.decode.specs.declared.Instruction.{Instruction}
 use Rattle.decode.specs.declared.Instruction.the-variants as I
 use Rattle.decode.specs.declared.Entry.{Entry}
 use Rattle.decode.specs.declared.Entry.the-variants.{Reserved, Operation, OnMask, MergeOrMove, Vxunary0, Vwxunary0, Vmunary0}
 use Rattle.decode.specs.Word.{funct3, funct6, rs2, vm, masked, vmFits, sourceOf, resolvedOf, namedOf, arithmeticOf, avlOf, settingOf, widthOf, access, plainOf, maskOf, wholeOf, unitOf, memoryOf, decodeOf}
 use Rattle.decode.specs.Listing.{Row, listing, find, keep, inColumn, entryOf}
-use Rattle.decode.specs.Fields.{SourceFits, SizeFits, ArithmeticFits, MaskFits, AvlFits, TypeFits, SettingFits, ModeFits, AccessFits, Fits}
-
--- both ways of a test
-either : {A : Type 0} (P : A → Type 0) (b : Bool) (x y : A) → (b ≡ true → P x) → (b ≡ false → P y) → P (cond b x y)
-either P true x y f g = f refl
-either P false x y f g = g refl
+use Rattle.decode.specs.Fields.{SourceFits, SizeFits, AvlFits, ModeFits, Fits}
 
 five-bits : (n : ℕ) → n % 32 < 32
 five-bits n = omega arith
@@ -181,9 +173,7 @@ count-fits n =
     (λ e. subst Count (sym (eqb-true n 7 e)) (inr (inr (inr refl))))))
 
 middle : (p q r : Bool) → (p && (q && r)) ≡ true → q ≡ true
-middle true true r h = refl
-middle true false r h = h
-middle false q r h = absurd (false≢true h)
+middle p q r h = both-left q r (both-right p (q && r) h)
 
 left-false : (p q : Bool) → (p || q) ≡ false → p ≡ false
 left-false true q h = h

@@ -9,7 +9,6 @@ use Rattle.operation.specs.declared.V0.the-variants.{Masks, Carry, MaybeCarry, 
 use Rattle.operation.specs.Shape.{shapeOf}
 use Rattle.decode.specs.declared.Source.{Source}
 use Rattle.decode.specs.declared.Source.the-variants.{Vector, Scalar, Immediate}
-use Rattle.decode.specs.declared.MaskOp.{MaskOp}
 use Rattle.decode.specs.declared.AvlSource.{AvlSource}
 use Rattle.decode.specs.declared.AvlSource.the-variants.{Register, Number, Largest, Kept}
 use Rattle.decode.specs.declared.TypeSource.{TypeSource}

@@ -1,6 +1,5 @@
 -- What an arm of the dispatcher knows of its operands, and what it gives: in the arm of the variant v, the operation is v.
-use mathlib.Core.Path.{_≡_, sym, ap, _∙_, subst}
-use mathlib.Core.Bool.{Bool, true, false, _||_, cond}
+use mathlib.Core.Path.{_≡_, ap, _∙_, subst}
 use Prim.Native.Nat.{ℕ, _*_, _/_, _<_, _≤_, _^_}
 use native.Mathlib.Nat.{le-div-iff-mul-le, div-le-self}
 use native.Mathlib.Omega.{arith}
@@ -11,7 +10,7 @@ use Rattle.fixed.specs.declared.Element.{Element}
 use Rattle.fixed.specs.declared.Vxrm.{Vxrm}
 use Rattle.fixed.specs.Round.{exact}
 use Rattle.operation.specs.declared.Op.{Op}
-use Rattle.operation.specs.Shape.{eewOf, isDouble, shapeOf, largestSew}
+use Rattle.operation.specs.Shape.{eewOf, shapeOf, largestSew}
 use Rattle.operation.proofs.ShapeLaws.{largest-le}
 use Rattle.element.specs.Element.{elementOf, Operands}
 

@@ -6,26 +6,6 @@ use decode::Instruction;
 use operation::Op;
 use operation::Size;
 
-// The value of a hex digit, and 0 of any other byte.
-fn digit(b: u8) -> u64
-    ensures { λ r. ⌜ r < 16 ⌝ }
-{
-    match b {
-        48..=57 => (b - 48) as u64,
-        97..=102 => (b - 87) as u64,
-        _ => 0,
-    }
-}
-
-// The number of the n digits from index `at`.
-fn hex_at(line: &[u8; 67], at: usize, n: usize) -> u64 {
-    let mut x: u64 = 0;
-    for i in 0..n {
-        x = x % 0x1000_0000_0000_0000 * 16 + digit(line[(at % 67 + i % 67) % 67]);
-    }
-    x
-}
-
 // An operand cut to its width.
 fn cut(size: Size, sew: u64, x: u64) -> u64
     requires { ⌜ sew ≤ 64 ⌝ }
@@ -45,8 +25,8 @@ fn none() {
     io::write_all(1, b"none\n");
 }
 
-fn run(op: Op, line: &[u8; 67]) {
-    let sew = hex_at(line, 9, 2);
+fn run(op: Op, line: &[u8]) {
+    let sew = hexadecimal::number(line, 9, 2);
     if sew < 8 {
         none();
         return;
@@ -58,11 +38,11 @@ fn run(op: Op, line: &[u8; 67]) {
     let shape = operation::shape_of(op);
     let vs2 = shape.vs2;
     let vs1 = shape.vs1;
-    let a = cut(vs2, sew, hex_at(line, 14, 16));
-    let b = cut(vs1, sew, hex_at(line, 31, 16));
-    let d = hex_at(line, 48, 16);
-    let c = hex_at(line, 65, 1) % 2;
-    let rm = fixed::vxrm_of(hex_at(line, 12, 1));
+    let a = cut(vs2, sew, hexadecimal::number(line, 14, 16));
+    let b = cut(vs1, sew, hexadecimal::number(line, 31, 16));
+    let d = hexadecimal::number(line, 48, 16);
+    let c = hexadecimal::number(line, 65, 1) % 2;
+    let rm = fixed::vxrm_of(hexadecimal::number(line, 12, 1));
     let e = element::element(op, sew, rm, a, b, d, c);
     io::print_hex(1, e.value, 16);
     if e.saturates {
@@ -79,7 +59,7 @@ fn step() -> bool {
     if n < 67 {
         return false;
     }
-    let word = hex_at(&line, 0, 8) % 0x1_0000_0000;
+    let word = hexadecimal::number(&line, 0, 8);
     match decode::decode(word as u32) {
         Instruction::Arithmetic(a) => {
             let op = a.op;

@@ -1,10 +1,11 @@
 -- Loads and stores, from what the code has computed: one law for each addressing mode, over plain variables; and the bounds that they need.
 use Prim.Native.Nat.{ℕ, _+_, _*_, _/_, _≤_, _<_}
 use mathlib.Core.Path.{_≡_, sym, ap₂, subst, _∙_}
-use mathlib.Core.Logic.{inl, inr}
+use mathlib.Core.Logic.{⊎-elim}
 use mathlib.Core.List.{List, [], _∷_}
 use native.Mathlib.Nat.{mul-le-mul}
 use native.Mathlib.Omega.{arith}
+use lib.Dec.{lit≤}
 use types.Run.{OneOf}
 use mir.Syntax.{w64}
 use mir.Val.{Fits}
@@ -23,26 +24,25 @@ use Rattle.elementwise.specs.Elementwise.{scalarOf, groupAt, movingOf, b
 
 -- ---- bounds
 
-eew-within : (e : ℕ) → OneOf (8 ∷ 16 ∷ 32 ∷ 64 ∷ []) e → (8 ≤ e) × (e ≤ 64)
-eew-within e (inl h) = (omega arith, omega arith)
-eew-within e (inr (inl h)) = (omega arith, omega arith)
-eew-within e (inr (inr (inl h))) = (omega arith, omega arith)
-eew-within e (inr (inr (inr h))) = (omega arith, omega arith)
+-- what holds of four numbers holds of one of them
+pub one-of : (P : ℕ → Type 0) (i j k l : ℕ) → P i → P j → P k → P l → (n : ℕ) → OneOf (i ∷ j ∷ k ∷ l ∷ []) n → P n
+one-of P i j k l p q r s n h =
+    ⊎-elim (λ e. subst P (sym e) p) (⊎-elim (λ e. subst P (sym e) q) (⊎-elim (λ e. subst P (sym e) r) (λ e. subst P (sym e) s))) h
+
+pub eew-low : (a : Access) → AccessFits a → 8 ≤ a .eew
+eew-low a f = one-of (λ n. 8 ≤ n) 8 16 32 64 (lit≤ tt) (lit≤ tt) (lit≤ tt) (lit≤ tt) (a .eew) (f .eew)
 
 pub access-some : (a : Access) → AccessFits a → 0 < a .eew
-access-some a f = omega (arith, eew-within (a .eew) (f .eew))
+access-some a f = omega (arith, eew-low a f)
 
 pub access-most : (a : Access) → AccessFits a → a .eew ≤ 2048
-access-most a f = omega (arith, eew-within (a .eew) (f .eew))
+access-most a f = one-of (λ n. n ≤ 2048) 8 16 32 64 (lit≤ tt) (lit≤ tt) (lit≤ tt) (lit≤ tt) (a .eew) (f .eew)
 
 pub stride-fits : (a : Access) (r : ℕ) → a .mode ≡ M.Strided r → AccessFits a → r < 32
 stride-fits a r e f = subst ModeFits e (f .mode)
 
-whole-le : (n : ℕ) → OneOf (1 ∷ 2 ∷ 4 ∷ 8 ∷ []) n → n ≤ 8
-whole-le n (inl h) = omega arith
-whole-le n (inr (inl h)) = omega arith
-whole-le n (inr (inr (inl h))) = omega arith
-whole-le n (inr (inr (inr h))) = omega arith
+pub whole-le : (n : ℕ) → ModeFits (M.Whole n) → n ≤ 8
+whole-le = one-of (λ n. n ≤ 8) 1 2 4 8 (lit≤ tt) (lit≤ tt) (lit≤ tt) (lit≤ tt)
 
 whole-most : (a : Access) (n : ℕ) → a .mode ≡ M.Whole n → AccessFits a → n ≤ 8
 whole-most a n e f = whole-le n (subst ModeFits e (f .mode))

@@ -1,17 +1,16 @@
--- What an instruction at a vtype keeps to: its registers, its widths, and what legality comes to.
+-- What an instruction at a vtype keeps to: its registers, the width of its destination, and its scalars and immediates.
 use Prim.Native.Nat.{ℕ, _≤_, _<_, _^_}
-use mathlib.Core.Path.{_≡_, refl, sym, ap, subst, _∙_}
-use mathlib.Core.Logic.{_⊎_, inl, inr, ⊎-elim}
-use mathlib.Core.Bool.{Bool, true, false, not, _||_, cond}
+use mathlib.Core.Path.{_≡_, refl, subst}
+use mathlib.Core.Bool.{Bool, cond}
 use mathlib.Core.List.{List}
 use native.Mathlib.Nat.{lt-of-lt-of-le}
 use native.Mathlib.Omega.{arith}
-use lib.Dec.{eqb, lit<}
+use lib.Dec.{lit<}
 use lib.Pow.{pow-pos, pow-mono}
 use Rattle.width.specs.Width.{signed, wrap}
 use Rattle.width.proofs.SignedLaws.{wrap-lt}
 use Rattle.width.proofs.Bounds.{low-lt, choice-lt}
-use Rattle.laws.proofs.Apart.{or-cases, apart}
+use Rattle.laws.proofs.Chain.{either}
 use Rattle.operation.specs.declared.Size.{Size}
 use Rattle.operation.specs.declared.Size.the-variants.{Absent, Bit, Eighth, Quarter, Half, Single, Double}
 use Rattle.operation.specs.declared.Form.{Form}
@@ -29,11 +28,9 @@ use Rattle.decode.specs.declared.Arithmetic.{Arithmetic}
 use Rattle.decode.specs.declared.Access.{Access}
 use Rattle.decode.specs.Fields.{SourceFits, ArithmeticFits, ModeFits, AccessFits}
 use Rattle.group.specs.declared.Group.{Group}
-use Rattle.group.specs.Group.{placedOf, sparesV0}
 use Rattle.elementwise.specs.declared.Read.{Read}
 use Rattle.elementwise.specs.declared.Read.the-variants as R
-use Rattle.elementwise.specs.declared.Elementwise.{Elementwise}
-use Rattle.elementwise.specs.Elementwise.{scalarOf, readAt, groupOf, secondOf, computingOf, movingOf, byMode, transferringOf, readFits, writesRegisters, isBit, legalOf, ReadInRange, InRange}
+use Rattle.elementwise.specs.Elementwise.{scalarOf, readAt, groupOf, secondOf, computingOf, movingOf, byMode, transferringOf, ReadInRange, InRange}
 
 -- ---- the registers of a decoded word are in range
 
@@ -59,8 +56,7 @@ second-range x v z shift (Scalar r) h = tt
 second-range x v z shift (Immediate n) h = tt
 
 if-range : (b : Bool) (r : Read) → ReadInRange r → ReadInRange (cond b r (R.Constant 0))
-if-range true r h = h
-if-range false r h = tt
+if-range b r h = either ReadInRange b r (R.Constant 0) (λ t. h) (λ t. tt)
 
 pub computing-range : (x : List ℕ) (c : Control) (a : Arithmetic) → ArithmeticFits a → InRange (computingOf x c a)
 unfolding computingOf
@@ -89,52 +85,8 @@ mode-range b x c a base (M.Whole n) h k = moving-range a base _ _ _ _ _ h tt
 pub transferring-range : (b : Board) (x : List ℕ) (c : Control) (a : Access) → AccessFits a → InRange (transferringOf b x c a)
 transferring-range b x c a f = mode-range b x c a _ (a .mode) (f .vd) (f .mode)
 
--- ---- the widths of operands
+-- ---- the width of the destination: no operation is without one
 
--- the EEW of a group that is read
-unfoldable widthOr : ℕ → Read → ℕ
-widthOr d (R.Constant n) = d
-widthOr d (R.Element g) = g .eew
-widthOr d (R.Bit reg) = d
-
-width-at : (d : ℕ) (r : Read) (g : Group) → widthOr d r ≡ d → r ≡ R.Element g → g .eew ≡ d
-unfolding widthOr
-width-at d r g h e = sym (ap (widthOr d) e) ∙ h
-
-read-width : (v : ℕ) (z : Size) (reg : ℕ) → widthOr (eewOf z (sewOf v)) (readAt v z reg) ≡ eewOf z (sewOf v)
-unfolding readAt widthOr
-read-width v Absent reg = refl
-read-width v Bit reg = refl
-read-width v Eighth reg = refl
-read-width v Quarter reg = refl
-read-width v Half reg = refl
-read-width v Single reg = refl
-read-width v Double reg = refl
-
-second-width : (x : List ℕ) (v : ℕ) (z : Size) (shift : Bool) (s : Source) → widthOr (eewOf z (sewOf v)) (secondOf x v z shift s) ≡ eewOf z (sewOf v)
-unfolding secondOf widthOr
-second-width x v z shift (Vector r) = read-width v z r
-second-width x v z shift (Scalar r) = refl
-second-width x v z shift (Immediate n) = refl
-
-if-width : (d : ℕ) (b : Bool) (r : Read) → widthOr d r ≡ d → widthOr d (cond b r (R.Constant 0)) ≡ d
-unfolding widthOr
-if-width d true r h = h
-if-width d false r h = refl
-
-pub vs2-width : (x : List ℕ) (c : Control) (a : Arithmetic) (g : Group) → computingOf x c a .vs2 ≡ R.Element g → g .eew ≡ eewOf (shapeOf (a .op) .vs2) (sewOf (c .vtype))
-unfolding computingOf
-vs2-width x c a g e = search (width-at, read-width)
-
-pub vs1-width : (x : List ℕ) (c : Control) (a : Arithmetic) (g : Group) → computingOf x c a .vs1 ≡ R.Element g → g .eew ≡ eewOf (shapeOf (a .op) .vs1) (sewOf (c .vtype))
-unfolding computingOf
-vs1-width x c a g e = search (width-at, second-width)
-
-pub vd-width : (x : List ℕ) (c : Control) (a : Arithmetic) (g : Group) → computingOf x c a .vd ≡ R.Element g → g .eew ≡ eewOf (shapeOf (a .op) .vd) (sewOf (c .vtype))
-unfolding computingOf
-vd-width x c a g e = search (width-at, if-width, read-width)
-
--- no operation is without a destination
 form-width : (v reg : ℕ) (f : Form) → groupOf (readAt v (shapeAt f .vd) reg) .eew ≡ eewOf (shapeAt f .vd) (sewOf v)
 unfolding readAt
 form-width v reg SingleWidth = refl
@@ -159,7 +111,7 @@ pub dest-width : (x : List ℕ) (c : Control) (a : Arithmetic) → computingOf x
 unfolding computingOf
 dest-width x c a = form-width (c .vtype) (a .vd) (formOf (a .op))
 
--- ---- an operand that is the same at every index: below 2 ^ SEW, and 0 where there is none
+-- ---- an operand that is the same at every index: below 2 ^ SEW
 
 unfoldable Constantly : (ℕ → Type 0) → Read → Type 0
 Constantly P (R.Constant n) = P n
@@ -190,33 +142,8 @@ second-constant x v z shift (Scalar r) h = low-lt (sewOf v) (scalarOf x r)
 second-constant x v z shift (Immediate n) h =
     choice-lt shift n (wrap (sewOf v) (signed 5 n)) (2 ^ sewOf v) (small v n h) (wrap-lt (sewOf v) (signed 5 n))
 
-pub vs2-constant : (x : List ℕ) (c : Control) (a : Arithmetic) (n : ℕ) → computingOf x c a .vs2 ≡ R.Constant n → n ≡ 0
-unfolding computingOf
-vs2-constant x c a n e =
-    constantly (λ m. m ≡ 0) (readAt (c .vtype) (shapeOf (a .op) .vs2) (a .vs2)) n (read-constant (λ m. m ≡ 0) (c .vtype) (shapeOf (a .op) .vs2) (a .vs2) refl) e
-
 pub vs1-constant : (x : List ℕ) (c : Control) (a : Arithmetic) (n : ℕ) → ArithmeticFits a → computingOf x c a .vs1 ≡ R.Constant n → n < 2 ^ sewOf (c .vtype)
 unfolding computingOf
 vs1-constant x c a n f e =
     constantly (λ m. m < 2 ^ sewOf (c .vtype)) (secondOf x (c .vtype) (shapeOf (a .op) .vs1) (shapeOf (a .op) .shift) (a .source)) n
     (second-constant x (c .vtype) (shapeOf (a .op) .vs1) (shapeOf (a .op) .shift) (a .source) (f .source)) e
-
--- ---- legality
-
-pub record Legal (elen : ℕ) (e : Elementwise) : Type 0 where
-  pub dest : (e .dest .eew ≡ 1) ⊎ (placedOf elen (e .dest) ≡ true)
-  pub vs2 : readFits elen (writesRegisters (e .action)) (e .dest) (e .vs2) ≡ true
-  pub vs1 : readFits elen (writesRegisters (e .action)) (e .dest) (e .vs1) ≡ true
-  pub vd : readFits elen (writesRegisters (e .action)) (e .dest) (e .vd) ≡ true
-  pub v0 : writesRegisters (e .action) ≡ true → sparesV0 (e .masked || isBit (e .v0)) (e .dest) ≡ true
-
-implies : (p q : Bool) → (not p || q) ≡ true → p ≡ true → q ≡ true
-implies p q h e = rw e at h
-
-one-or : (n : ℕ) (q : Bool) → (eqb n 1 || q) ≡ true → (n ≡ 1) ⊎ (q ≡ true)
-one-or n q h = ⊎-elim (λ t. inl (search apart)) inr (or-cases (eqb n 1) q h)
-
-pub legal-apart : (elen : ℕ) (e : Elementwise) → legalOf elen e ≡ true → Legal elen e
-unfolding legalOf
-legal-apart elen e h =
-    record { dest = search (one-or, apart); vs2 = search apart; vs1 = search apart; vd = search apart; v0 = λ w. search (implies, apart) }

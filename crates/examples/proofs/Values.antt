@@ -1,11 +1,27 @@
 -- The worked values hold, by computation.
-use mathlib.Core.Path.{refl}
+use mathlib.Core.Path.{_≡_, refl}
+use mathlib.Core.List.{[], _∷_, map}
+use Rattle.answer.specs.declared.Answer.the-variants.{Finished, Illegal}
 use Rattle.width.specs.Width.{signed, wrap}
 use Rattle.control.specs.Vtype.{vlmaxOf, supportedOf}
 use Rattle.control.specs.Control.{setOf}
 use Rattle.fixed.specs.Round.{increment, roundoffUnsigned, roundoffSigned, clipUnsigned, clipSigned}
 use Rattle.fixed.specs.Fixed.{vaadd, vasub, vsmul, vnclipu}
-use Rattle.examples.specs.Values.{Values}
+use Rattle.turns.specs.Turn.{turn, clean, written}
+use Rattle.control.specs.Control.{possibleOf, typedWellOf}
+use Rattle.refusal.specs.Refusal.{refusalOf}
+use Rattle.decode.specs.Listing.{entryOf, find, listing}
+use Rattle.decode.specs.Word.{decodeOf, arithmeticOf, resolvedOf, sourceOf, settingOf, avlOf}
+use Rattle.group.specs.Group.{placedOf, emul8Of, mayOverlapOf, sparesV0}
+use Rattle.elementwise.specs.Elementwise.{legalOf, computingOf, readAt, readFits, secondOf}
+use Rattle.machine.specs.OneTurn.{settingResult}
+use Rattle.machine.specs.Machine.{turnOf, refusalAt, legalAt, endOf, resultAt}
+use Rattle.examples.specs.Values.{addedAt, Values, Changes}
+
+-- a turn that finishes, and an illegal one: no machine that answers every word alike meets the definition
+pub two-answers : map addedAt (15 ∷ 16 ∷ []) ≡ (Finished ∷ Illegal ∷ [])
+unfolding turnOf turn decodeOf arithmeticOf resolvedOf sourceOf entryOf find listing refusalAt refusalOf possibleOf typedWellOf supportedOf vlmaxOf legalAt legalOf computingOf secondOf readAt readFits placedOf emul8Of mayOverlapOf sparesV0 endOf clean
+two-answers = refl
 
 pub values : Values
 unfolding signed wrap vlmaxOf supportedOf setOf increment roundoffUnsigned roundoffSigned clipUnsigned clipSigned vaadd vasub vsmul vnclipu
@@ -24,5 +40,10 @@ values = record {
   P9c = refl;
   P9d = refl;
   P9e = refl;
+  P10 = two-answers;
   supported = refl;
 }
+
+pub changes : Changes
+unfolding turnOf turn decodeOf refusalAt refusalOf possibleOf typedWellOf supportedOf vlmaxOf legalAt endOf clean resultAt settingOf avlOf settingResult setOf written
+changes = refl

@@ -2,6 +2,9 @@
 use Prim.Native.Nat.{ℕ, zero, suc, _+_, _-_, _^_}
 use mathlib.Core.Path.{_≡_}
 use mathlib.Core.List.{List, [], _∷_, map}
+use lib.ListN.{replicate}
+use Rattle.answer.specs.declared.Answer.{Answer}
+use Rattle.answer.specs.declared.Answer.the-variants.{Finished, Illegal}
 use Rattle.width.specs.Width.{flag}
 use Rattle.control.specs.Board.{base}
 use Rattle.control.specs.declared.Avl.the-variants.{To}
@@ -14,6 +17,8 @@ use Rattle.fixed.specs.Round.{exact, saturated}
 use Rattle.operation.specs.declared.Op.{Op}
 use Rattle.operation.specs.declared.Op.the-variants.{Vaadd, Vasub, Vsmul, Vnclipu, Vdiv, Vrem}
 use Rattle.element.specs.Element.{elementOf}
+use Rattle.machine.specs.State.{State}
+use Rattle.machine.specs.Machine.{turnOf}
 
 -- −n at e8
 abbrev pub minus : ℕ → ℕ
@@ -31,6 +36,20 @@ modes f = f Rnu ∷ f Rne ∷ f Rdn ∷ f Rod ∷ []
 abbrev pub supportedBelow : ℕ → ℕ
 supportedBelow zero = 0
 supportedBelow (suc n) = flag (supportedOf base n) + supportedBelow n
+
+-- e64 at LMUL 1 with vl 2, at a vstart; registers and scalars 0, no memory, every page closed
+abbrev pub e64At : ℕ → State
+e64At vstart = record {
+  registers = replicate 512 0;
+  scalars = replicate 32 0;
+  memory = [];
+  rights = replicate 256 0;
+  control = record { vtype = 0x18; vl = 2; vstart = vstart; vxrm = 0; vxsat = 0 };
+}
+
+-- the answer to an uncut turn of vadd.vv v1, v2, v3
+abbrev pub addedAt : ℕ → Answer
+addedAt vstart = turnOf base 0x022180D7 (2 ^ 32 - 1) (e64At vstart) .answer
 
 pub record Values : Type 0 where
   -- vtype 0x10: AVL 0, 3, 4, 5, 2^64 - 1 give vl 0, 3, 4, 4, 4
@@ -56,5 +75,11 @@ pub record Values : Type 0 where
   pub P9c : at8 Vrem 7 0 Rnu ≡ exact 7
   pub P9d : at8 Vdiv (minus 7) 2 Rnu ≡ exact (minus 3)
   pub P9e : at8 Vrem (minus 7) 2 Rnu ≡ exact (minus 1)
+  -- e64 vadd: vstart 15 with vl 2 finishes; 16 is illegal
+  pub P10 : map addedAt (15 ∷ 16 ∷ []) ≡ (Finished ∷ Illegal ∷ [])
   -- 'Setting the vector type': "That is 88 values"
   pub supported : supportedBelow 256 ≡ 88
+
+-- vl after vsetvli x12, x10, e32, m1, where vl is 2 and x10 is 0: a machine that changes nothing leaves 2
+abbrev pub Changes : Type 0
+Changes = turnOf base 0x01057657 (2 ^ 32 - 1) (e64At 0) .after .control .vl ≡ 0

@@ -7,10 +7,9 @@ use native.Mathlib.Omega.{arith}
 use native.Mathlib.Nat.{div-add-mod', mul-le-mul-right, lt-of-mul-lt-mul-right}
 use native.Mathlib.Decide.{decLt}
 use lib.Dec.{ltb, leb, eqb}
-use lib.Pow.{pow-add, shl-shr}
 use Rattle.laws.proofs.Apart.{or-cases, apart}
 use Rattle.group.specs.declared.Group.{Group}
-use Rattle.group.specs.Group.{emul8Of, registersOf, placedOf, apartOf, lowestOf, mayOverlapOf}
+use Rattle.group.specs.Group.{registersOf, placedOf, apartOf, lowestOf, mayOverlapOf}
 
 pub record Placed (elen : ℕ) (g : Group) : Type 0 where
   pub eew-low : 8 ≤ g .eew
@@ -78,8 +77,3 @@ divides-32 (suc (suc (suc (suc (suc (suc (suc k))))))) h = omega arith
 pub ends-inside : (g : Group) (k : ℕ) → k ≤ 6 → g .emul8 ≡ 2 ^ k → g .reg < 32 → g .reg % registersOf g ≡ 0 → g .reg + registersOf g ≤ 32
 ends-inside g k h e l a =
     next-multiple (registersOf g) (g .reg) 32 a (ap (λ (m : ℕ). 32 % max 1 (m / 8)) e ∙ divides-32 k h) l
-
--- 8 * EMUL is a power of 2, as SEW, LMUL and EEW are
-pub emul8-power : (i j k n : ℕ) → k + j ≡ n + i → emul8Of (2 ^ i) (2 ^ j) (2 ^ k) ≡ 2 ^ n
-unfolding emul8Of
-emul8-power i j k n h = rw (← pow-add, h, pow-add, shl-shr)

@@ -4,8 +4,9 @@ ghost use mathlib.Core.Path.{_≡_};
 ghost use Prim.Native.Nat.{_*_, _/_, _%_, _<_, _≤_, _^_};
 ghost use mathlib.Core.Bool.{cond};
 ghost use lib.Signed.{ltZ, shrZ};
-ghost use Rattle.width.specs.Width.{Width, signed, wrap, flag};
+ghost use Rattle.width.specs.Width.{Width, signed, wrap};
 ghost use Rattle.integer.specs.Integer.{vadd, vsub, vrsub, vwaddu, vwsubu, vwadd, vwsub, vwadd-w, vwsub-w, vzext, vsext, vadc, vmadc, vsbc, vmsbc, vand, vor, vxor, vsll, vsrl, vsra, vnsrl, vnsra, vmseq, vmsne, vmsltu, vmslt, vmsleu, vmsle, vmsgtu, vmsgt, vminu, vmin, vmaxu, vmax, vmerge, vmv};
+use width::flagged;
 
 pub mod mask;
 
@@ -215,13 +216,6 @@ fn choose(test: bool, x: u64, y: u64) -> u64
     ensures { λ r. ⌜ r ≡ cond test x y ⌝ }
 {
     if test { x } else { y }
-}
-
-// A mask bit.
-fn flagged(test: bool) -> u64
-    ensures { λ r. ⌜ r ≡ flag test ⌝ }
-{
-    choose(test, 1, 0)
 }
 
 // One of two numbers, by whether a is less than b, both signed.

@@ -1,5 +1,5 @@
 // The eight operations of section 16.1 of document 000. `a` is the mask bit of vs2, `b` that of vs1.
-use super::flagged;
+use width::flagged;
 ghost use mathlib.Core.Path.{_≡_};
 ghost use Rattle.integer.specs.Mask.{vmand, vmnand, vmandn, vmxor, vmor, vmnor, vmorn, vmxnor};
 

@@ -1,22 +1,30 @@
 -- Chains of tests: what a chain is where a test holds and where it does not, and whether a test holds that is made of others.
 use Prim.Native.Nat.{ℕ}
-use mathlib.Core.Path.{_≡_, sym, ap, _∙_}
+use mathlib.Core.Path.{_≡_, refl, sym, ap, _∙_}
 use mathlib.Core.Bool.{Bool, true, false, not, _&&_, _||_, cond}
 use lib.Dec.{eqb}
 use borrow.Author.Tests.{ne-eqb, not-true, not-false}
 
--- in the arm of the variant v: a function of it, alone or with another argument
+-- in the arm of the variant v: a function of it, alone or with another argument after or before it
 pub case : {A C : Type 0} (f : A → C) (a v : A) (r : C) → a ≡ v → r ≡ f v → r ≡ f a
 case f a v r e p = p ∙ sym (ap f e)
 
 pub arm : {A B C : Type 0} (f : A → B → C) (a v : A) (b : B) (r : C) → a ≡ v → r ≡ f v b → r ≡ f a b
 arm f a v b r e p = p ∙ sym (ap (λ (x : _). f x b) e)
 
+pub arm-last : {A B C : Type 0} (f : B → A → C) (b : B) (a v : A) (r : C) → a ≡ v → r ≡ f b v → r ≡ f b a
+arm-last f b = case (f b)
+
 pub yes : {A : Type 0} (b : Bool) (r x y : A) → b ≡ true → r ≡ x → r ≡ cond b x y
 yes b r x y h e = rw h e
 
 pub no : {A : Type 0} (b : Bool) (r x y : A) → b ≡ false → r ≡ y → r ≡ cond b x y
 no b r x y h e = rw h e
+
+-- what holds on both ways of a test holds of the one that it chooses
+pub either : {A : Type 0} (P : A → Type 0) (b : Bool) (x y : A) → (b ≡ true → P x) → (b ≡ false → P y) → P (cond b x y)
+either P true x y f g = f refl
+either P false x y f g = g refl
 
 -- a number that is known, or that a call has answered
 pub known : (k n m : ℕ) (v : Bool) → k ≡ n → eqb n m ≡ v → eqb k m ≡ v

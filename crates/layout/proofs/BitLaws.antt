@@ -38,9 +38,6 @@ bit-above x j k h =
     let e : j ≡ k + (1 + (j - suc k)) = omega arith in
     ap (λ (y : ℕ). y % 2) (ap (λ (m : ℕ). x / 2 ^ m) e ∙ sym (shr-shr x k (1 + (j - suc k))) ∙ sym (shr-shr (x / 2 ^ k) 1 (j - suc k)))
 
-pub bit-same : (x k b : ℕ) → b < 2 → bitOf (withBit x k b) k ≡ b
-bit-same x k b h = omega (arith, withBit-high x k b)
-
 pub bit-other : (x k b j : ℕ) → b < 2 → j ≢ k → bitOf (withBit x k b) j ≡ bitOf x j
 bit-other x k b j h d = go (decLt j k)
   where

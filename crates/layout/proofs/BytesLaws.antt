@@ -1,13 +1,13 @@
--- Numbers of several bytes: read and stored by halves, kept by other stores, read back.
+-- Numbers of several bytes: read and stored by halves, and kept by other stores.
 use mathlib.Core.Path.{_≡_, refl, sym, ap, ap₂, _∙_}
 use mathlib.Core.Logic.{_⊎_, inl, inr, ⊎-elim}
-use mathlib.Core.List.{List, [], _∷_}
+use mathlib.Core.List.{List}
 use Prim.Native.Nat.{ℕ, zero, suc, _+_, _*_, _/_, _%_, _^_, _≤_, _<_}
 use native.Mathlib.Omega.{arith}
 use native.Mathlib.Nat.{zero-add, add-zero, suc-add, add-suc, add-comm, mul-suc, div-one}
 use lib.ListN.{length, getD, set, length-set}
-use lib.Seq.{getD-set-same, getD-set-other}
-use lib.Pow.{pow-add, shr-shr, mod-pow-add}
+use lib.Seq.{getD-set-other}
+use lib.Pow.{pow-add, shr-shr}
 use mir.Syntax.{w8, w64}
 use mir.Val.{Fits}
 use mir.Facts.{fits-widen}
@@ -79,17 +79,7 @@ pub bytes-apart : (l : List ℕ) (a m x b n : ℕ) → (a + m ≤ b) ⊎ (b + n 
 bytes-apart l a m x b n h =
     bytes-same (withBytes l a m x) l b n (λ k u v. withBytes-other l a m x k (⊎-elim (λ w. inl (omega arith)) (λ w. inr (omega arith)) h))
 
--- what was stored reads back
-pub bytes-back : (l : List ℕ) (a n x : ℕ) → a + n ≤ length l → bytesAt (withBytes l a n x) a n ≡ x % 2 ^ (8 * n)
-unfolding bytesAt withBytes
-bytes-back l a zero x h = omega arith
-bytes-back l a (suc n) x h =
-    let m : List ℕ = set l a (x % 256) in
-    let e = bytes-back m (suc a) n (x / 256) (rw (length-set l a (x % 256)) (omega arith)) in
-    let f = withBytes-other m (suc a) n (x / 256) a (inr (omega arith)) ∙ getD-set-same l a (x % 256) 0 (omega arith) in
-    rw (e, f, mul-suc 8 n, mod-pow-add x (8 * n) 8) (omega arith)
-
--- ---- a list of bytes: what a slice of u8 is, and stays
+-- ---- a list of bytes: what a slice of u8 is
 
 abbrev pub Bytes : List ℕ → Type 0
 Bytes l = (k : ℕ) → getD l k 0 < 256
@@ -104,15 +94,3 @@ pub bytes-lt : (l : List ℕ) (a n : ℕ) → Bytes l → bytesAt l a n < 2 ^ (8
 unfolding bytesAt
 bytes-lt l a zero h = omega arith
 bytes-lt l a (suc n) h = rw (mul-suc 8 n, pow-add 2 (8 * n) 8) (omega (arith, bytes-lt l (suc a) n h, h a))
-
-pub set-bytes : (l : List ℕ) (a x : ℕ) → x < 256 → Bytes l → Bytes (set l a x)
-set-bytes [] a x u h k = h k
-set-bytes (y ∷ l) zero x u h zero = u
-set-bytes (y ∷ l) zero x u h (suc k) = h (suc k)
-set-bytes (y ∷ l) (suc a) x u h zero = h zero
-set-bytes (y ∷ l) (suc a) x u h (suc k) = set-bytes l a x u (λ j. h (suc j)) k
-
-pub withBytes-bytes : (l : List ℕ) (a n x : ℕ) → Bytes l → Bytes (withBytes l a n x)
-unfolding withBytes
-withBytes-bytes l a zero x h = h
-withBytes-bytes l a (suc n) x h = withBytes-bytes (set l a (x % 256)) (suc a) n (x / 256) (set-bytes l a (x % 256) (omega arith) h)

@@ -1,7 +1,7 @@
--- Elements of the register file: where they lie, what a write leaves of the others, and that it reads back.
-use mathlib.Core.Path.{_≡_, refl, ap}
+-- Elements of the register file: where they lie, and what a write leaves of the others.
+use mathlib.Core.Path.{_≡_, ap}
 use mathlib.Core.Logic.{_⊎_, inl, inr, ⊎-elim, _≢_}
-use mathlib.Core.Bool.{Bool, true, false, cond}
+use mathlib.Core.Bool.{cond}
 use mathlib.Core.List.{List}
 use Prim.Native.Nat.{ℕ, _+_, _*_, _/_, _%_, _^_, _≤_, _<_}
 use native.Mathlib.Omega.{arith}
@@ -12,10 +12,11 @@ use lib.Dec.{T, eqb}
 use lib.Pow.{pow-mono}
 use lib.Seq.{getD-set-same, getD-set-other, set-out}
 use borrow.Author.Tests.{eq-eqb, ne-eqb, eqb-true}
+use Rattle.laws.proofs.Chain.{either}
 use Rattle.layout.specs.Layout.{bytesAt, withBytes, bitAt, withBitAt, elementAt, withElement, bitOf, withBit, elementWidth, Inside}
 use Rattle.layout.proofs.WidthLaws.{whole-bytes, shape}
-use Rattle.layout.proofs.BytesLaws.{length-withBytes, withBytes-other, bytes-same, bytes-apart, bytes-back, Bytes, bytes-lt, set-bytes, withBytes-bytes}
-use Rattle.layout.proofs.BitLaws.{bit-same, bit-other, withBit-lt}
+use Rattle.layout.proofs.BytesLaws.{length-withBytes, withBytes-other, bytes-same, bytes-apart, Bytes, bytes-lt}
+use Rattle.layout.proofs.BitLaws.{bit-other}
 
 -- ---- an element of one bit, and one of several bytes
 
@@ -51,10 +52,6 @@ with-several : (vlenb : ℕ) (file : List ℕ) (reg n i x : ℕ) → withElement
 unfolding withElement
 with-several vlenb file reg n i x = several n (withBitAt file (vlenb * reg) i x) (λ m. withBytes file (vlenb * reg + i * m) m x)
 
-either : {A : Type 0} (P : A → Type 0) (b : Bool) (x y : A) → (b ≡ true → P x) → (b ≡ false → P y) → P (cond b x y)
-either P true x y p q = p refl
-either P false x y p q = q refl
-
 -- ---- a write keeps the length
 
 pub length-withBitAt : (l : List ℕ) (a i x : ℕ) → length (withBitAt l a i x) ≡ length l
@@ -66,15 +63,7 @@ unfolding withElement
 length-withElement vlenb file reg eew i x =
     either (λ (l : List ℕ). length l ≡ length file) (eqb eew 1) _ _ (λ e. length-withBitAt file (vlenb * reg) i x) (λ e. length-withBytes file _ (eew / 8) x)
 
--- ---- a write keeps the file a list of bytes, and then an element is below 2 ^ EEW
-
-pub withElement-bytes : (vlenb : ℕ) (file : List ℕ) (reg eew i x : ℕ) → Bytes file → Bytes (withElement vlenb file reg eew i x)
-unfolding withElement withBitAt
-withElement-bytes vlenb file reg eew i x h =
-    let a = vlenb * reg + i / 8 in
-    either Bytes (eqb eew 1) _ _
-    (λ e. set-bytes file a _ (withBit-lt 8 (getD file a 0) (i % 8) (x % 2) (omega arith) (omega arith) (h a)) h)
-    (λ e. withBytes-bytes file _ (eew / 8) x h)
+-- ---- in a list of bytes an element is below 2 ^ EEW
 
 pub element-lt : (vlenb : ℕ) (file : List ℕ) (reg eew i : ℕ) → Bytes file → elementAt vlenb file reg eew i < 2 ^ eew
 unfolding elementAt bitAt
@@ -82,18 +71,6 @@ element-lt vlenb file reg eew i h =
     either (λ r. r < 2 ^ eew) (eqb eew 1) _ _
     (λ e. rw (eqb-true eew 1 e) (omega arith))
     (λ e. lt-of-lt-of-le (bytes-lt file _ (eew / 8) h) (pow-mono (omega arith)))
-
--- ---- what is written reads back, if it lies inside the file
-
-pub element-back : {vlenb : ℕ} (file : List ℕ) {reg eew i : ℕ} (x : ℕ) → Inside (length file) vlenb reg eew i
-    → elementAt vlenb (withElement vlenb file reg eew i x) reg eew i ≡ x % 2 ^ eew
-unfolding elementAt withElement bitAt withBitAt
-element-back {vlenb} file {reg} {eew} {i} x h =
-    let a = vlenb * reg + i / 8 in
-    shape (λ e. Inside (length file) vlenb reg e i → elementAt vlenb (withElement vlenb file reg e i x) reg e i ≡ x % 2 ^ e)
-    (λ u. rw (getD-set-same file a (withBit (getD file a 0) (i % 8) (x % 2)) 0 (mask-room u refl)) (bit-same (getD file a 0) (i % 8) (x % 2) (omega arith)))
-    (λ n s u. rw (with-several, at-several) (bytes-back file (vlenb * reg + i * n) n x (omega (arith, u .within))))
-    eew (h .width) h
 
 -- ---- an element is as it was after one that has no bit in common with it was replaced
 

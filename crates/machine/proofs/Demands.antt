@@ -2,11 +2,12 @@
 use Prim.Native.Nat.{ℕ, _+_, _-_, _^_, _≤_}
 use mathlib.Core.Path.{_≡_, refl, sym, ap, _∙_, subst}
 use mathlib.Core.Logic.{_⊎_, inl, inr}
-use mathlib.Core.Bool.{Bool, true, false, not, _&&_, cond}
+use mathlib.Core.Bool.{Bool, true, false, not, _&&_}
 use mathlib.Core.List.{List, [], _∷_}
 use mathlib.Core.Option.{Option, none, some}
 use native.Mathlib.Omega.{arith}
 use Rattle.laws.proofs.Apart.{both-left, both-right}
+use Rattle.laws.proofs.Chain.{either}
 use lib.Dec.{T}
 use lib.ListN.{length}
 use Rattle.answer.specs.declared.Answer.{Answer}
@@ -25,7 +26,7 @@ use Rattle.decode.specs.declared.MaskOp.{MaskOp}
 use Rattle.decode.specs.declared.MaskOp.the-variants.{Vcpop, Vfirst, Vmsbf, Vmsof, Vmsif}
 use Rattle.decode.specs.declared.MaskInstruction.{MaskInstruction}
 use Rattle.decode.specs.Word.{decodeOf}
-use Rattle.access.specs.Access.{accessOf, misaligned, denied}
+use Rattle.access.specs.Access.{accessOf}
 use Rattle.refusal.specs.Refusal.{refusalOf}
 use Rattle.elementwise.specs.declared.Action.{Action}
 use Rattle.elementwise.specs.declared.Action.the-variants as A
@@ -40,11 +41,6 @@ use Rattle.machine.specs.Effect.{Write, Fault, activeOf, toRegisters, to
 use Rattle.machine.specs.OneTurn.{typeFrom, avlFrom, settingResult, maskResult}
 use Rattle.machine.specs.Machine.{legalAt, refusalAt, orElse, effectAt, resultAt, instructionOf, answerOf, ranOf, outcomeOf, turnOf, Opened}
 use Rattle.machine.specs.Demands.{isTrap, isRefusal, Demand1, Demand3, Next, withRights, turnsOf, lastRights, Proceeds}
-
--- what holds of both holds of the one that a test chooses
-either : {A : Type 0} (P : A → Type 0) (c : Bool) (x y : A) → P x → P y → P (cond c x y)
-either P true x y p q = p
-either P false x y p q = q
 
 -- ---- a fault's answer is a trap, and a refusal's answer a refusal
 
@@ -79,7 +75,7 @@ refusal-refuses : (b : Board) (i : Decoded.Instruction) (rights : List ℕ) (s :
 unfolding refusalAt
 refusal-refuses b i rights s v =
     refusing-else _ _ (board-refuses b _ _ _ rights _)
-    (either Refusing (legalAt b i (s .scalars) (withVstart (s .control) v)) none (some Illegal) tt refl)
+    (either Refusing (legalAt b i (s .scalars) (withVstart (s .control) v)) none (some Illegal) (λ t. tt) (λ t. refl))
 
 -- the answer of a fault is a trap
 abbrev Trapping : Effect Fault Write → Type 0
@@ -101,7 +97,7 @@ element-traps : (b : Board) (rights : List ℕ) (s : Core) (e : Elementwise) (i 
 unfolding effectOf
 element-traps b rights s e i =
     either Trapping (activeOf (b .vlenb) (s .registers) (e .masked) i) (actingOf b rights s e i (e .action)) idle
-    (acting-traps b rights s e i (e .action)) tt
+    (λ t. acting-traps b rights s e i (e .action)) (λ t. tt)
 
 effect-traps : (b : Board) (i : Decoded.Instruction) (rights : List ℕ) (s : Core) (k : ℕ) → Trapping (effectAt b i rights s k)
 unfolding effectAt
@@ -196,10 +192,10 @@ unfolding putOf
 put-vstart b (toRegisters g i r) s h = h
 put-vstart b (toMemory a n x) s h = h
 
-set-vstart : (b : Board) (c : Control) (v : ℕ) (a : Avl) → setOf b c v a .vstart ≡ 0
+pub set-vstart : (b : Board) (c : Control) (v : ℕ) (a : Avl) → setOf b c v a .vstart ≡ 0
 unfolding setOf
-set-vstart b c v (To avl) = either (λ (c : Control). c .vstart ≡ 0) (supportedOf b v) _ _ refl refl
-set-vstart b c v Keep = either (λ (c : Control). c .vstart ≡ 0) (supportedOf b v && keepsOf b c v) _ _ refl refl
+set-vstart b c v (To avl) = either (λ (c : Control). c .vstart ≡ 0) (supportedOf b v) _ _ (λ t. refl) (λ t. refl)
+set-vstart b c v Keep = either (λ (c : Control). c .vstart ≡ 0) (supportedOf b v && keepsOf b c v) _ _ (λ t. refl) (λ t. refl)
 
 mask-vstart : (b : Board) (m : MaskInstruction) (s : Core) (o : MaskOp) → s .control .vstart ≡ 0 → maskResult b m s o .control .vstart ≡ 0
 unfolding maskResult

@@ -2,13 +2,13 @@
 use Prim.Native.Nat.{ℕ, _*_, _/_, _≤_, _<_}
 use mathlib.Core.Path.{_≡_, refl, sym, subst}
 use mathlib.Core.Logic.{⊎-elim}
-use mathlib.Core.List.{List, [], _∷_}
+use mathlib.Core.List.{List}
 use mathlib.Core.Bool.{Bool, true, false, not, _||_, cond}
 use native.Mathlib.Omega.{arith}
 use native.Mathlib.Nat.{div-le-of-le-mul, mul-le-mul-right}
 use lib.Dec.{T, eqb, lit≤}
-use types.Run.{OneOf}
 use Rattle.laws.proofs.Apart.{both-left, both-right}
+use Rattle.laws.proofs.Chain.{either}
 use Rattle.operation.specs.declared.Size.{Size}
 use Rattle.operation.specs.declared.Size.the-variants.{Absent, Bit, Eighth, Quarter, Half, Single, Double}
 use Rattle.operation.specs.declared.V0.{V0}
@@ -35,6 +35,7 @@ use Rattle.elementwise.specs.declared.Read.the-variants as R
 use Rattle.elementwise.specs.declared.Action.the-variants as A
 use Rattle.elementwise.specs.declared.Transfer.{Transfer}
 use Rattle.elementwise.specs.declared.Elementwise.{Elementwise}
+use Rattle.elementwise.proofs.AccessLaws.{one-of, eew-low, whole-le}
 use Rattle.elementwise.specs.Elementwise.{groupAt, readAt, groupOf, secondOf, v0Read, computingOf, movingOf, byMode, transferringOf, readFits, writesRegisters, isBit, legalOf}
 use Rattle.machine.specs.Effect.{valueOf}
 use Rattle.machine.proofs.Geometry.{Power, power-of, product-power, quotient-power, quotient-low, sew-power, Extent, mask-extent, placed-extent, extent, overlap-apart, v0-apart}
@@ -82,8 +83,7 @@ second-operand x v size shift (Scalar r) = constant _
 second-operand x v size shift (Immediate n) = constant _
 
 if-operand : (v : ℕ) (t : Bool) (r : Read) → Operand v r → Operand v (cond t r (R.Constant 0))
-if-operand v true r o = o
-if-operand v false r o = constant 0
+if-operand v t r o = either (Operand v) t r (R.Constant 0) (λ h. o) (λ h. constant 0)
 
 -- ---- what a later element reads, after an element of the destination was written
 
@@ -232,18 +232,11 @@ computing-undisturbed b x c a w t l h =
 
 -- ---- loads and stores
 
-pub one-of : (P : ℕ → Type 0) (i j k l : ℕ) → P i → P j → P k → P l → (n : ℕ) → OneOf (i ∷ j ∷ k ∷ l ∷ []) n → P n
-one-of P i j k l p q r s n h =
-    ⊎-elim (λ e. subst P (sym e) p) (⊎-elim (λ e. subst P (sym e) q) (⊎-elim (λ e. subst P (sym e) r) (λ e. subst P (sym e) s))) h
-
 eew-power : (a : Access) → AccessFits a → Power (a .eew)
 eew-power a f = one-of Power 8 16 32 64 (power-of 3) (power-of 4) (power-of 5) (power-of 6) (a .eew) (f .eew)
 
 pub eew-width : (a : Access) → AccessFits a → T (elementWidth (a .eew))
 eew-width a f = one-of (λ n. T (elementWidth n)) 8 16 32 64 tt tt tt tt (a .eew) (f .eew)
-
-pub eew-low : (a : Access) → AccessFits a → 8 ≤ a .eew
-eew-low a f = one-of (λ n. 8 ≤ n) 8 16 32 64 (lit≤ tt) (lit≤ tt) (lit≤ tt) (lit≤ tt) (a .eew) (f .eew)
 
 not-store : (p : Bool) (t : Transfer) → writesRegisters (cond p (A.Store t) (A.Load t)) ≡ true → p ≡ false
 not-store true t h = sym h
@@ -257,8 +250,7 @@ module _ (b : Board) (x : List ℕ) (c : Control) (a : Access) (base : ℕ) (w :
   mode-end (M.Indexed r) n = t .vl
   mode-end M.MaskBytes n = omega (arith, t .vl, w .some)
   mode-end (M.Whole k) n =
-      let most : k ≤ 8 = one-of (λ m. m ≤ 8) 1 2 4 8 (lit≤ tt) (lit≤ tt) (lit≤ tt) (lit≤ tt) k n in
-      let all : k * (8 * b .vlenb) ≤ a .eew * (8 * b .vlenb) = mul-le-mul-right (8 * b .vlenb) (omega (arith, eew-low a f)) in
+      let all : k * (8 * b .vlenb) ≤ a .eew * (8 * b .vlenb) = mul-le-mul-right (8 * b .vlenb) (omega (arith, whole-le k n, eew-low a f)) in
       div-le-of-le-mul (a .eew) all
 
   -- a group at the vtype, alone or beside a group of offsets

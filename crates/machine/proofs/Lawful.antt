@@ -71,7 +71,7 @@ facts-legal b i r s v f = rw (acceptable-accepted b _ _ _ r _ (f .acceptable), f
 
 -- ---- what goes by neither vstart nor vxsat
 
-abbrev besides : Control → ℕ → ℕ → Control
+abbrev pub besides : Control → ℕ → ℕ → Control
 besides c vstart vxsat = record { vtype = c .vtype; vl = c .vl; vstart = vstart; vxrm = c .vxrm; vxsat = vxsat }
 
 computing-besides : (a : Arithmetic) (x : List ℕ) (c : Control) (p q : ℕ) → computingOf x (besides c p q) a ≡ computingOf x c a
@@ -86,7 +86,7 @@ mode-besides b a x c base p q (M.Indexed r) = refl
 mode-besides b a x c base p q M.MaskBytes = refl
 mode-besides b a x c base p q (M.Whole n) = refl
 
-transferring-besides : (b : Board) (a : Access) (x : List ℕ) (c : Control) (p q : ℕ) → transferringOf b x (besides c p q) a ≡ transferringOf b x c a
+pub transferring-besides : (b : Board) (a : Access) (x : List ℕ) (c : Control) (p q : ℕ) → transferringOf b x (besides c p q) a ≡ transferringOf b x c a
 transferring-besides b a x c p q = mode-besides b a x c _ p q (a .mode)
 
 -- legality does not go by vxsat

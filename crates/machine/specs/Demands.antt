@@ -1,5 +1,5 @@
 -- What is demanded of the definition of a turn: demands 1 and 3 of the customer, as statements on `turnOf`, on a board b.
-use Prim.Native.Nat.{ℕ, zero, _+_, _-_, _^_, _≤_, _<_}
+use Prim.Native.Nat.{ℕ, _+_, _-_, _^_, _≤_, _<_}
 use mathlib.Core.Path.{_≡_}
 use mathlib.Core.Logic.{_⊎_}
 use mathlib.Core.Bool.{Bool, true, false}

@@ -15,7 +15,6 @@ use Rattle.control.specs.declared.Control.{Control}
 use Rattle.control.specs.Vtype.{vill, sewOf}
 use Rattle.operation.specs.Shape.{shapeOf}
 use Rattle.decode.specs.declared.Arithmetic.{Arithmetic}
-use Rattle.decode.specs.declared.Access.{Access}
 use Rattle.decode.specs.declared.Mode.{Mode}
 use Rattle.decode.specs.declared.Mode.the-variants.{Unit, Strided, Indexed, MaskBytes, Whole}
 use Rattle.decode.specs.declared.MaskOp.{MaskOp}
@@ -24,7 +23,6 @@ use Rattle.decode.specs.declared.MaskInstruction.{MaskInstruction}
 use Rattle.decode.specs.declared.Instruction.the-variants as I
 use Rattle.decode.specs.declared.Instruction as Decoded
 use Rattle.decode.specs.Word.{decodeOf}
-use Rattle.elementwise.specs.declared.Elementwise.{Elementwise}
 use Rattle.elementwise.specs.Elementwise.{computingOf, transferringOf, legalOf}
 use Rattle.refusal.specs.Refusal.{refusalOf}
 use Rattle.turns.specs.Turn.{Effect, idle, Ending, finished, paused, trapped, refused, Instruction, turn}

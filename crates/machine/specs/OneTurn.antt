@@ -1,6 +1,6 @@
 -- Instructions that take one turn: the setting instructions (section 7), vcpop.m, vfirst.m, vmsbf.m, vmsif.m, vmsof.m (16.2 to 16.6).
 use Prim.Native.Nat.{ℕ, zero, suc, _+_, _-_, _^_}
-use mathlib.Core.Bool.{Bool, not, _&&_, _||_, cond}
+use mathlib.Core.Bool.{Bool, _&&_, cond}
 use mathlib.Core.List.{List}
 use lib.ListN.{set}
 use lib.Dec.{ltb, leb, eqb}

@@ -10,9 +10,9 @@ use lib.Signed.{quotZ, remZ, mag, mag-rem}
 use mir.Syntax.{w64}
 use mir.Val.{SFits, toZ, ofZ}
 use borrow.Author.Tests.{eq-eqb, ne-eqb}
-use Rattle.multiply.proofs.OperandLaws.{signed-read, op-is}
+use Rattle.multiply.proofs.OperandLaws.{op-is}
 use Rattle.width.specs.Width.{signed, wrap}
-use Rattle.width.proofs.SignedLaws.{quot-minus-one, rem-minus-one, signed-zero, signed-ones, signed-neg, wrap-neg, in-range, bits-pos, op-fits, quot-fits}
+use Rattle.width.proofs.SignedLaws.{quot-minus-one, rem-minus-one, signed-zero, signed-ones, signed-neg, wrap-neg, in-range, bits-pos, op-fits, quot-fits, signed-read}
 
 pub by-zero : (b r x y : ℕ) → b ≡ 0 → r ≡ x → r ≡ cond (eqb b 0) x y
 by-zero b r x y e f = f ∙ sym (ap (λ (t : Bool). cond t x y) (eq-eqb b 0 e))

@@ -1,7 +1,7 @@
 // The element operations of sections 12.10 to 12.14 of document 000. `a` is the element of vs2, `b` that of vs1 (or the scalar in its
 // place), `d` the destination's element before the instruction.
 ghost use mathlib.Core.Path.{_≡_};
-ghost use Prim.Native.Nat.{_*_, _<_, _≤_, _^_};
+ghost use Prim.Native.Nat.{_*_, _<_, _^_};
 ghost use Rattle.width.specs.Width.{Width};
 ghost use Rattle.multiply.specs.Multiply.{vmul, vmulh, vmulhu, vmulhsu, vdivu, vremu, vdiv, vrem, vwmul, vwmulu, vwmulsu, vmacc, vnmsac, vmadd, vnmsub, vwmaccu, vwmacc, vwmaccsu, vwmaccus};
 

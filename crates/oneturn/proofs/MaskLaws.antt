@@ -26,9 +26,6 @@ bit-inside size vlenb reg i e h l =
     let p : suc reg * vlenb ≤ 32 * vlenb = mul-le-mul-right vlenb h in
     record { width = tt; within = omega arith }
 
-pub masked-active : (masked : Bool) (x y : ℕ) → not masked ≡ false → x ≡ y → eqb x 1 ≡ (not masked || eqb y 1)
-masked-active masked x y h e = rw (h, e)
-
 pub set-is : (a b : Bool) (x y : ℕ) → a ≡ b → x ≡ y → (a && eqb x 1) ≡ (b && eqb y 1)
 set-is a b x y p q = rw (p, q)
 

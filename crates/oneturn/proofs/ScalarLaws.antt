@@ -1,7 +1,6 @@
 -- Scalar registers, and what a setting instruction takes from them.
 use Prim.Native.Nat.{ℕ, _<_}
 use mathlib.Core.Path.{_≡_, ap, subst}
-use mathlib.Core.List.{List}
 use Rattle.control.specs.declared.Board.{Board}
 use Rattle.control.specs.declared.Control.{Control}
 use Rattle.control.specs.declared.Avl.{Avl}
@@ -12,7 +11,6 @@ use Rattle.decode.specs.declared.AvlSource.the-variants.{Register}
 use Rattle.decode.specs.declared.TypeSource.{TypeSource}
 use Rattle.decode.specs.declared.TypeSource.the-variants.{InRegister}
 use Rattle.decode.specs.Fields.{AvlFits, TypeFits}
-use Rattle.machine.specs.OneTurn.{avlFrom, typeFrom}
 
 -- in the arm of a register, its number is below 32
 pub avl-register : (a : AvlSource) (r : ℕ) → a ≡ Register r → AvlFits a → r < 32
@@ -23,13 +21,6 @@ type-register t r e h = subst TypeFits e h
 
 pub set-from : (b : Board) (c r : Control) (v v′ : ℕ) (a a′ : Avl) → r ≡ setOf b c v a → v ≡ v′ → a ≡ a′ → r ≡ setOf b c v′ a′
 set-from b c r v v′ a a′ e p q = rw (← p, ← q) e
-
--- in the arm of the variant v
-pub avl-by : (x : List ℕ) (a v : AvlSource) (r : Avl) → a ≡ v → r ≡ avlFrom x v → r ≡ avlFrom x a
-avl-by x a v r e p = rw e p
-
-pub type-by : (x : List ℕ) (t v : TypeSource) (r : ℕ) → t ≡ v → r ≡ typeFrom x v → r ≡ typeFrom x t
-type-by x t v r e p = rw e p
 
 pub to-same : (r s : ℕ) → r ≡ s → To r ≡ To s
 to-same r s e = ap To e

@@ -9,32 +9,19 @@ use decode::Setting;
 use decode::TypeSource;
 ghost use mathlib.Core.Path.{_≡_};
 ghost use mathlib.Core.Bool.{cond};
-ghost use Prim.Native.Nat.{_*_, _^_, _-_, _≤_, _<_};
+ghost use Prim.Native.Nat.{_*_, _^_, _-_, _<_};
 ghost use lib.ListN.{length};
 ghost use lib.Dec.{T, ltb};
-ghost use Rattle.width.specs.Width.{flag};
 ghost use Rattle.control.specs.Board.{Valid};
 ghost use Rattle.control.specs.Control.{setOf};
 ghost use Rattle.decode.specs.Fields.{AvlFits, TypeFits, SettingFits, MaskFits};
 ghost use Rattle.layout.specs.Layout.{withElement};
-ghost use Rattle.elementwise.specs.Elementwise.{scalarOf};
 ghost use Rattle.machine.specs.Effect.{activeOf};
 ghost use Rattle.machine.specs.OneTurn.{withScalar, avlFrom, typeFrom, setAt, populationOf, firstOf, firstBit, settingFirst};
 ghost use Rattle.machine.specs.Machine.{maskApart};
 ghost use Rattle.oneturn.specs.Lists.{Holds, keepsV0, lists, maskLists};
 
 // ---- scalar registers
-
-// x0 reads 0.
-fn scalar(x: &[u64], r: usize) -> u64
-    requires { ⌜ (length (now x) ≡ 32) × (r < 32) ⌝ }
-    ensures { λ z. ⌜ z ≡ scalarOf (now (x .entry)) r ⌝ }
-{
-    if r == 0 {
-        return 0;
-    }
-    x[r]
-}
 
 // x0 is never written.
 fn put_scalar(x: &mut [u64], r: usize, z: u64)
@@ -53,7 +40,7 @@ fn avl_of(x: &[u64], avl: AvlSource) -> Avl
     ensures { λ r. ⌜ r ≡ avlFrom (now (x .entry)) avl ⌝ }
 {
     match avl {
-        AvlSource::Register(r) => Avl::To(scalar(x, r)),
+        AvlSource::Register(r) => Avl::To(elementwise::scalar(x, r)),
         AvlSource::Number(n) => Avl::To(n),
         AvlSource::Largest => Avl::To(0xffff_ffff_ffff_ffff),
         AvlSource::Kept => Avl::Keep,
@@ -66,7 +53,7 @@ fn type_of(x: &[u64], vtype: TypeSource) -> u64
 {
     match vtype {
         TypeSource::Given(v) => v,
-        TypeSource::InRegister(r) => scalar(x, r),
+        TypeSource::InRegister(r) => elementwise::scalar(x, r),
     }
 }
 
@@ -86,31 +73,13 @@ pub fn setting(board: Board, scalars: &mut [u64], control: Control, s: Setting) 
 
 // ---- masks
 
-// Whether element i is active: v0 is not the mask, or its bit is set.
-fn active(registers: &[u8], vlenb: usize, masked: bool, i: usize) -> bool
-    requires { ⌜ (length (now registers) ≡ 32 * vlenb) × (i < 8 * vlenb) ⌝ }
-    ensures { λ r. ⌜ r ≡ activeOf vlenb (now (registers .entry)) masked i ⌝ }
-{
-    if !masked {
-        return true;
-    }
-    layout::read_element(registers, vlenb, 0, 1, i) == 1
-}
-
 // Whether element i is active and its bit in vs2 set.
 fn set_at(registers: &[u8], vlenb: usize, m: MaskInstruction, i: usize) -> bool
     requires { ⌜ (length (now registers) ≡ 32 * vlenb) × ((i < 8 * vlenb) × MaskFits m) ⌝ }
     ensures { λ r. ⌜ r ≡ setAt vlenb (now (registers .entry)) m i ⌝ }
 {
-    active(registers, vlenb, m.masked, i)
+    step::active(registers, vlenb, m.masked, i)
         & (layout::read_element(registers, vlenb, m.vs2, 1, i) == 1)
-}
-
-// A mask bit.
-fn flagged(b: bool) -> u64
-    ensures { λ r. ⌜ r ≡ flag b ⌝ }
-{
-    if b { 1 } else { 0 }
 }
 
 // How many of the first vl elements are active and set.
@@ -121,7 +90,7 @@ fn count(registers: &[u8], vlenb: usize, m: MaskInstruction, vl: usize) -> u64
     let mut n: u64 = 0;
     let mut i: usize = 0;
     while i < vl {
-        n += flagged(set_at(registers, vlenb, m, i));
+        n += width::flagged(set_at(registers, vlenb, m, i));
         i += 1;
     }
     n
@@ -160,9 +129,9 @@ fn first_bit(op: MaskOp, i: usize, first: usize) -> u64
     ensures { λ r. ⌜ r ≡ firstBit op i first ⌝ }
 {
     match op {
-        MaskOp::Vmsbf => flagged(i < first),
-        MaskOp::Vmsif => flagged(i <= first),
-        MaskOp::Vmsof => flagged(i == first),
+        MaskOp::Vmsbf => width::flagged(i < first),
+        MaskOp::Vmsif => width::flagged(i <= first),
+        MaskOp::Vmsof => width::flagged(i == first),
         MaskOp::Vcpop => 0,
         MaskOp::Vfirst => 0,
     }
@@ -177,7 +146,7 @@ fn set_bit(registers: &mut [u8], vlenb: usize, m: MaskInstruction, first: usize,
         (withElement vlenb (now (registers .entry)) (m .rd) 1 i (firstBit (m .op) i first)) (now (registers .entry)) ⌝ }
 {
     let op = m.op;
-    if active(registers, vlenb, m.masked, i) {
+    if step::active(registers, vlenb, m.masked, i) {
         layout::write_element(registers, vlenb, m.rd, 1, i, first_bit(op, i, first));
     }
 }

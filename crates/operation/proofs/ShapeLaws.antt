@@ -1,13 +1,11 @@
 -- The largest SEW of an operation is at most 64.
-use mathlib.Core.Bool.{Bool, true, false, _||_, cond}
+use mathlib.Core.Bool.{_||_}
 use Prim.Native.Nat.{_≤_}
-use native.Mathlib.Omega.{arith}
+use lib.Dec.{lit≤}
+use Rattle.laws.proofs.Chain.{either}
 use Rattle.operation.specs.declared.Op.{Op}
 use Rattle.operation.specs.Shape.{isDouble, shapeOf, largestSew}
 
-cond-le : (t : Bool) → cond t 32 64 ≤ 64
-cond-le true = omega arith
-cond-le false = omega arith
-
 pub largest-le : (o : Op) → largestSew o ≤ 64
-largest-le o = cond-le (shapeOf o .narrow || (isDouble (shapeOf o .vd) || isDouble (shapeOf o .vs2)))
+largest-le o =
+    either (λ n. n ≤ 64) (shapeOf o .narrow || (isDouble (shapeOf o .vd) || isDouble (shapeOf o .vs2))) 32 64 (λ t. lit≤ tt) (λ t. lit≤ tt)

@@ -33,39 +33,59 @@ isDouble Double = true
 
 -- ---- the forms that there are: vd = vs2 op vs1
 
+-- vd, vs2, vs1, and what v0 is; vd is no source, every SEW is there, and an immediate is sign-extended
+abbrev pub operandsOf : Size → Size → Size → V0 → Shape
+operandsOf vd vs2 vs1 v0 = record { vd = vd; vs2 = vs2; vs1 = vs1; accumulates = false; v0 = v0; narrow = false; shift = false }
+
+-- the same, where v0 is the mask
+abbrev pub maskableOf : Size → Size → Size → Shape
+maskableOf vd vs2 vs1 = operandsOf vd vs2 vs1 Masks
+
+-- where v0 is the mask and an immediate is not sign-extended
+abbrev pub shiftingOf : Size → Size → Size → Shape
+shiftingOf vd vs2 vs1 = record { vd = vd; vs2 = vs2; vs1 = vs1; accumulates = false; v0 = Masks; narrow = false; shift = true }
+
+-- where v0 is the mask and SEW is 8 to 32 alone
+abbrev pub upTo32 : Size → Size → Size → Shape
+upTo32 vd vs2 vs1 = record { vd = vd; vs2 = vs2; vs1 = vs1; accumulates = false; v0 = Masks; narrow = true; shift = false }
+
+-- where v0 is the mask and vd is a source too
+abbrev pub accumulatingOf : Size → Size → Size → Shape
+accumulatingOf vd vs2 vs1 = record { vd = vd; vs2 = vs2; vs1 = vs1; accumulates = true; v0 = Masks; narrow = false; shift = false }
+
 abbrev pub shapeAt : Form → Shape
 -- SEW = SEW op SEW
-shapeAt SingleWidth = record { vd = Single; vs2 = Single; vs1 = Single; accumulates = false; v0 = Masks; narrow = false; shift = false }
+shapeAt SingleWidth = maskableOf Single Single Single
 -- the same, by an immediate that is not sign-extended
-shapeAt Shift = record { vd = Single; vs2 = Single; vs1 = Single; accumulates = false; v0 = Masks; narrow = false; shift = true }
+shapeAt Shift = shiftingOf Single Single Single
 -- the same, at SEW 8 to 32 alone
-shapeAt High = record { vd = Single; vs2 = Single; vs1 = Single; accumulates = false; v0 = Masks; narrow = true; shift = false }
+shapeAt High = upTo32 Single Single Single
 -- 2*SEW = SEW op SEW (section 11.2)
-shapeAt Widening = record { vd = Double; vs2 = Single; vs1 = Single; accumulates = false; v0 = Masks; narrow = false; shift = false }
+shapeAt Widening = maskableOf Double Single Single
 -- 2*SEW = 2*SEW op SEW
-shapeAt WideFirst = record { vd = Double; vs2 = Double; vs1 = Single; accumulates = false; v0 = Masks; narrow = false; shift = false }
+shapeAt WideFirst = maskableOf Double Double Single
 -- SEW = 2*SEW op SEW (section 11.3), by an immediate that is not sign-extended
-shapeAt Narrowing = record { vd = Single; vs2 = Double; vs1 = Single; accumulates = false; v0 = Masks; narrow = false; shift = true }
+shapeAt Narrowing = shiftingOf Single Double Single
 -- SEW of SEW/2, SEW/4, SEW/8
-shapeAt FromHalf = record { vd = Single; vs2 = Half; vs1 = Absent; accumulates = false; v0 = Masks; narrow = false; shift = false }
-shapeAt FromQuarter = record { vd = Single; vs2 = Quarter; vs1 = Absent; accumulates = false; v0 = Masks; narrow = false; shift = false }
-shapeAt FromEighth = record { vd = Single; vs2 = Eighth; vs1 = Absent; accumulates = false; v0 = Masks; narrow = false; shift = false }
+shapeAt FromHalf = maskableOf Single Half Absent
+shapeAt FromQuarter = maskableOf Single Quarter Absent
+shapeAt FromEighth = maskableOf Single Eighth Absent
 -- mask = SEW op SEW
-shapeAt Compare = record { vd = Bit; vs2 = Single; vs1 = Single; accumulates = false; v0 = Masks; narrow = false; shift = false }
+shapeAt Compare = maskableOf Bit Single Single
 -- SEW = SEW op SEW op carry
-shapeAt AddCarry = record { vd = Single; vs2 = Single; vs1 = Single; accumulates = false; v0 = Carry; narrow = false; shift = false }
+shapeAt AddCarry = operandsOf Single Single Single Carry
 -- mask = SEW op SEW op carry, if there is one
-shapeAt CarryOut = record { vd = Bit; vs2 = Single; vs1 = Single; accumulates = false; v0 = MaybeCarry; narrow = false; shift = false }
+shapeAt CarryOut = operandsOf Bit Single Single MaybeCarry
 -- SEW = v0 ? SEW : SEW
-shapeAt Merge = record { vd = Single; vs2 = Single; vs1 = Single; accumulates = false; v0 = Carry; narrow = false; shift = false }
+shapeAt Merge = operandsOf Single Single Single Carry
 -- SEW = SEW
-shapeAt Move = record { vd = Single; vs2 = Absent; vs1 = Single; accumulates = false; v0 = Unused; narrow = false; shift = false }
+shapeAt Move = operandsOf Single Absent Single Unused
 -- SEW = SEW * SEW op SEW, one of them vd
-shapeAt MultiplyAdd = record { vd = Single; vs2 = Single; vs1 = Single; accumulates = true; v0 = Masks; narrow = false; shift = false }
+shapeAt MultiplyAdd = accumulatingOf Single Single Single
 -- 2*SEW = SEW * SEW op 2*SEW, the last vd
-shapeAt WideningMultiplyAdd = record { vd = Double; vs2 = Single; vs1 = Single; accumulates = true; v0 = Masks; narrow = false; shift = false }
+shapeAt WideningMultiplyAdd = accumulatingOf Double Single Single
 -- mask = mask op mask
-shapeAt MaskLogical = record { vd = Bit; vs2 = Bit; vs1 = Bit; accumulates = false; v0 = Unused; narrow = false; shift = false }
+shapeAt MaskLogical = operandsOf Bit Bit Bit Unused
 
 -- ---- the table: the form of each operation
 

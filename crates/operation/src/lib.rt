@@ -1,7 +1,7 @@
 // The operations of sections 12, 13 and 16.1 of document 000 that work element by element, and the shape of each.
 ghost use mathlib.Core.Path.{_≡_};
 ghost use Prim.Native.Nat.{_≤_};
-ghost use Rattle.operation.specs.Shape.{eewOf, isDouble, shapeAt, formOf, shapeOf, largestSew};
+ghost use Rattle.operation.specs.Shape.{eewOf, isDouble, operandsOf, maskableOf, shiftingOf, upTo32, accumulatingOf, shapeAt, formOf, shapeOf, largestSew};
 
 pub enum Op {
     Vadd,
@@ -267,163 +267,85 @@ pub fn form_of(op: Op) -> Form
     }
 }
 
+// A shape by its fields, in their order.
+fn row(
+    vd: Size,
+    vs2: Size,
+    vs1: Size,
+    accumulates: bool,
+    v0: V0,
+    narrow: bool,
+    shift: bool,
+) -> Shape
+    ensures { λ r. ⌜ r ≡ record { vd = vd; vs2 = vs2; vs1 = vs1; accumulates = accumulates; v0 = v0; narrow = narrow; shift = shift } ⌝ }
+{
+    Shape {
+        vd,
+        vs2,
+        vs1,
+        accumulates,
+        v0,
+        narrow,
+        shift,
+    }
+}
+
+// vd is no source, every SEW is there, and an immediate is sign-extended.
+fn operands(vd: Size, vs2: Size, vs1: Size, v0: V0) -> Shape
+    ensures { λ r. ⌜ r ≡ operandsOf vd vs2 vs1 v0 ⌝ }
+{
+    row(vd, vs2, vs1, false, v0, false, false)
+}
+
+// v0 is the mask.
+fn maskable(vd: Size, vs2: Size, vs1: Size) -> Shape
+    ensures { λ r. ⌜ r ≡ maskableOf vd vs2 vs1 ⌝ }
+{
+    operands(vd, vs2, vs1, V0::Masks)
+}
+
+// v0 is the mask, and an immediate is not sign-extended.
+fn shifting(vd: Size, vs2: Size, vs1: Size) -> Shape
+    ensures { λ r. ⌜ r ≡ shiftingOf vd vs2 vs1 ⌝ }
+{
+    row(vd, vs2, vs1, false, V0::Masks, false, true)
+}
+
+// v0 is the mask, and SEW is 8 to 32 alone.
+fn up_to_32(vd: Size, vs2: Size, vs1: Size) -> Shape
+    ensures { λ r. ⌜ r ≡ upTo32 vd vs2 vs1 ⌝ }
+{
+    row(vd, vs2, vs1, false, V0::Masks, true, false)
+}
+
+// v0 is the mask, and vd a source too.
+fn accumulating(vd: Size, vs2: Size, vs1: Size) -> Shape
+    ensures { λ r. ⌜ r ≡ accumulatingOf vd vs2 vs1 ⌝ }
+{
+    row(vd, vs2, vs1, true, V0::Masks, false, false)
+}
+
 pub fn shape_at(form: Form) -> Shape
     ensures { λ r. ⌜ r ≡ shapeAt form ⌝ }
 {
     match form {
-        Form::SingleWidth => Shape {
-            vd: Size::Single,
-            vs2: Size::Single,
-            vs1: Size::Single,
-            accumulates: false,
-            v0: V0::Masks,
-            narrow: false,
-            shift: false,
-        },
-        Form::Shift => Shape {
-            vd: Size::Single,
-            vs2: Size::Single,
-            vs1: Size::Single,
-            accumulates: false,
-            v0: V0::Masks,
-            narrow: false,
-            shift: true,
-        },
-        Form::High => Shape {
-            vd: Size::Single,
-            vs2: Size::Single,
-            vs1: Size::Single,
-            accumulates: false,
-            v0: V0::Masks,
-            narrow: true,
-            shift: false,
-        },
-        Form::Widening => Shape {
-            vd: Size::Double,
-            vs2: Size::Single,
-            vs1: Size::Single,
-            accumulates: false,
-            v0: V0::Masks,
-            narrow: false,
-            shift: false,
-        },
-        Form::WideFirst => Shape {
-            vd: Size::Double,
-            vs2: Size::Double,
-            vs1: Size::Single,
-            accumulates: false,
-            v0: V0::Masks,
-            narrow: false,
-            shift: false,
-        },
-        Form::Narrowing => Shape {
-            vd: Size::Single,
-            vs2: Size::Double,
-            vs1: Size::Single,
-            accumulates: false,
-            v0: V0::Masks,
-            narrow: false,
-            shift: true,
-        },
-        Form::FromHalf => Shape {
-            vd: Size::Single,
-            vs2: Size::Half,
-            vs1: Size::Absent,
-            accumulates: false,
-            v0: V0::Masks,
-            narrow: false,
-            shift: false,
-        },
-        Form::FromQuarter => Shape {
-            vd: Size::Single,
-            vs2: Size::Quarter,
-            vs1: Size::Absent,
-            accumulates: false,
-            v0: V0::Masks,
-            narrow: false,
-            shift: false,
-        },
-        Form::FromEighth => Shape {
-            vd: Size::Single,
-            vs2: Size::Eighth,
-            vs1: Size::Absent,
-            accumulates: false,
-            v0: V0::Masks,
-            narrow: false,
-            shift: false,
-        },
-        Form::Compare => Shape {
-            vd: Size::Bit,
-            vs2: Size::Single,
-            vs1: Size::Single,
-            accumulates: false,
-            v0: V0::Masks,
-            narrow: false,
-            shift: false,
-        },
-        Form::AddCarry => Shape {
-            vd: Size::Single,
-            vs2: Size::Single,
-            vs1: Size::Single,
-            accumulates: false,
-            v0: V0::Carry,
-            narrow: false,
-            shift: false,
-        },
-        Form::CarryOut => Shape {
-            vd: Size::Bit,
-            vs2: Size::Single,
-            vs1: Size::Single,
-            accumulates: false,
-            v0: V0::MaybeCarry,
-            narrow: false,
-            shift: false,
-        },
-        Form::Merge => Shape {
-            vd: Size::Single,
-            vs2: Size::Single,
-            vs1: Size::Single,
-            accumulates: false,
-            v0: V0::Carry,
-            narrow: false,
-            shift: false,
-        },
-        Form::Move => Shape {
-            vd: Size::Single,
-            vs2: Size::Absent,
-            vs1: Size::Single,
-            accumulates: false,
-            v0: V0::Unused,
-            narrow: false,
-            shift: false,
-        },
-        Form::MultiplyAdd => Shape {
-            vd: Size::Single,
-            vs2: Size::Single,
-            vs1: Size::Single,
-            accumulates: true,
-            v0: V0::Masks,
-            narrow: false,
-            shift: false,
-        },
-        Form::WideningMultiplyAdd => Shape {
-            vd: Size::Double,
-            vs2: Size::Single,
-            vs1: Size::Single,
-            accumulates: true,
-            v0: V0::Masks,
-            narrow: false,
-            shift: false,
-        },
-        Form::MaskLogical => Shape {
-            vd: Size::Bit,
-            vs2: Size::Bit,
-            vs1: Size::Bit,
-            accumulates: false,
-            v0: V0::Unused,
-            narrow: false,
-            shift: false,
-        },
+        Form::SingleWidth => maskable(Size::Single, Size::Single, Size::Single),
+        Form::Shift => shifting(Size::Single, Size::Single, Size::Single),
+        Form::High => up_to_32(Size::Single, Size::Single, Size::Single),
+        Form::Widening => maskable(Size::Double, Size::Single, Size::Single),
+        Form::WideFirst => maskable(Size::Double, Size::Double, Size::Single),
+        Form::Narrowing => shifting(Size::Single, Size::Double, Size::Single),
+        Form::FromHalf => maskable(Size::Single, Size::Half, Size::Absent),
+        Form::FromQuarter => maskable(Size::Single, Size::Quarter, Size::Absent),
+        Form::FromEighth => maskable(Size::Single, Size::Eighth, Size::Absent),
+        Form::Compare => maskable(Size::Bit, Size::Single, Size::Single),
+        Form::AddCarry => operands(Size::Single, Size::Single, Size::Single, V0::Carry),
+        Form::CarryOut => operands(Size::Bit, Size::Single, Size::Single, V0::MaybeCarry),
+        Form::Merge => operands(Size::Single, Size::Single, Size::Single, V0::Carry),
+        Form::Move => operands(Size::Single, Size::Absent, Size::Single, V0::Unused),
+        Form::MultiplyAdd => accumulating(Size::Single, Size::Single, Size::Single),
+        Form::WideningMultiplyAdd => accumulating(Size::Double, Size::Single, Size::Single),
+        Form::MaskLogical => operands(Size::Bit, Size::Bit, Size::Bit, V0::Unused),
     }
 }
 

@@ -15,7 +15,6 @@ use Rattle.fixed.specs.declared.Element.{Element}
 use Rattle.fixed.specs.Round.{exact}
 use Rattle.element.specs.Element.{elementOf}
 use Rattle.control.specs.declared.Board.{Board}
-use Rattle.control.specs.declared.Control.{Control}
 use Rattle.group.specs.declared.Group.{Group}
 use Rattle.layout.specs.Layout.{bytesAt, withBytes, withElement, byteSize}
 use Rattle.access.specs.Access.{pageOf, needed, misaligned, denied, accessOf}
@@ -27,10 +26,10 @@ use Rattle.elementwise.specs.declared.Transfer.{Transfer}
 use Rattle.elementwise.specs.declared.Elementwise.{Elementwise}
 use Rattle.turns.specs.Turn.{Effect, write}
 use Rattle.machine.specs.State.{Core}
-use Rattle.machine.specs.Effect.{Write, toRegisters, toMemory, Fault, valueOf, activeOf, addressOf, byVerdict, actingOf, effectOf, saturating, putOf}
+use Rattle.machine.specs.Effect.{Write, toRegisters, toMemory, Fault, valueOf, activeOf, addressOf, byVerdict, actingOf, effectOf}
 use Rattle.step.specs.declared.Step.{Step}
 use Rattle.step.specs.declared.Step.the-variants as S
-use Rattle.step.specs.Step.{ReadInside, OperandsFit, ActionFits, coreAt, Did}
+use Rattle.step.specs.Step.{ReadInside, OperandsFit, ActionFits, Did}
 
 -- ---- operands
 
@@ -127,13 +126,3 @@ module _ (board : Board) (rights : List ℕ) (s : Core) (e : Elementwise) (i : �
   acted {file = file} {memory} {file′} {memory′} {r} n q d =
       let h = sym p ∙ not-false b n in
       rw h (subst (λ (a : Action). Did (board .vlenb) (actingOf board rights s e i a) file memory r file′ memory′) (sym q) d)
-
--- a write that was carried out in place is the definition's
-pub put-did : {w : Write} {file mem file′ mem′ : List ℕ} {sat : Bool} (board : Board) (x : List ℕ) (c : Control)
-    → Did (board .vlenb) (write w) file mem (S.Next sat) file′ mem′
-    → putOf board w (coreAt file mem x c) ≡ coreAt file′ mem′ x (saturating sat c)
-unfolding putOf
-put-did {w = toRegisters g i r} {sat = sat} board x c d =
-    let h : sat ≡ r .saturates = cc (d .step) in rw (h, d .registers, d .memory)
-put-did {w = toMemory a n y} {sat = sat} board x c d =
-    let h : sat ≡ false = cc (d .step) in rw (h, d .registers, d .memory)

@@ -35,7 +35,8 @@ fn value(registers: &[u8], vlenb: usize, read: Read, i: usize) -> u64
     }
 }
 
-fn active(registers: &[u8], vlenb: usize, masked: bool, i: usize) -> bool
+// Whether element i is active: v0 is not the mask, or its bit is set.
+pub fn active(registers: &[u8], vlenb: usize, masked: bool, i: usize) -> bool
     requires { ⌜ Inside (length (now registers)) vlenb 0 1 i ⌝ }
     ensures { λ r. ⌜ r ≡ activeOf vlenb (now (registers .entry)) masked i ⌝ }
 {

@@ -2,7 +2,6 @@
 use mathlib.Core.Path.{_≡_, refl, sym, ap, _∙_}
 use mathlib.Core.Bool.{Bool, false, cond}
 use mathlib.Core.List.{List}
-use mathlib.Core.Option.{Option, none}
 use Prim.Native.Nat.{ℕ, _+_, _-_, _*_, _^_, _≤_, _<_, min}
 use native.Mathlib.Omega.{arith}
 use lib.ListN.{length}
@@ -10,46 +9,29 @@ use mir.Syntax.{w64}
 use mir.Val.{Fits}
 use Rattle.answer.specs.declared.Answer.{Answer}
 use Rattle.answer.specs.declared.Answer.the-variants.{Finished, Paused}
-use Rattle.answer.specs.declared.Verdict.{Verdict}
-use Rattle.answer.specs.declared.Verdict.the-variants.{Accepted, Refused}
 use Rattle.control.specs.declared.Board.{Board}
 use Rattle.control.specs.declared.Control.{Control}
-use Rattle.decode.specs.declared.Access.{Access}
-use Rattle.decode.specs.declared.Mode.{Mode}
-use Rattle.decode.specs.declared.Mode.the-variants as M
 use Rattle.decode.specs.declared.Instruction.{Instruction}
 use Rattle.decode.specs.declared.Instruction.the-variants as I
 use Rattle.layout.proofs.BytesLaws.{Bytes}
-use Rattle.refusal.proofs.RefusalLaws.{Acceptable, accepted-facts}
+use Rattle.refusal.proofs.RefusalLaws.{Acceptable}
 use Rattle.elementwise.specs.declared.Elementwise.{Elementwise}
-use Rattle.elementwise.specs.Elementwise.{computingOf, byMode}
+use Rattle.elementwise.specs.Elementwise.{computingOf}
 use Rattle.turns.specs.Turn.{Effect, idle, fault, write, faults, Turn, Point, Outcome, carry, turn}
 use Rattle.turns.specs.Claims.{Lawful}
 use Rattle.turns.proofs.Laws.{Passed, passed-none, passed-more, passed-trap, passed-pause, passed-finish}
 use Rattle.machine.specs.State.{Core}
 use Rattle.machine.specs.Effect.{Write, toRegisters, toMemory, Fault, putOf, effectOf}
-use Rattle.machine.specs.Machine.{orElse, refusalAt, endOf, effectAt, resultAt, instructionOf, outcomeOf}
+use Rattle.machine.specs.Machine.{endOf, effectAt, resultAt, instructionOf, outcomeOf}
 use Rattle.step.specs.declared.Step.{Step}
 use Rattle.step.specs.declared.Step.the-variants as S
 use Rattle.step.specs.Step.{stepOf, registersAfter, memoryAfter, Ready, ActionFits, coreAt, Did}
 use Rattle.turn.specs.declared.Turned.{Turned}
 use Rattle.turn.specs.Ran.{given, left, turnBy, IsPlan, Legal}
-use Rattle.machine.proofs.Lawful.{lawful}
+use Rattle.machine.proofs.Lawful.{besides, transferring-besides, facts, lawful}
 use Rattle.turn.proofs.Readiness.{ready, action-fits}
 
 -- ---- the plan at another vstart and vxsat
-
-abbrev besides : Control → ℕ → ℕ → Control
-besides c vstart vxsat = record { vtype = c .vtype; vl = c .vl; vstart = vstart; vxrm = c .vxrm; vxsat = vxsat }
-
-mode-besides : (b : Board) (x : List ℕ) (c : Control) (a : Access) (base vstart vxsat : ℕ) (m : Mode)
-    → byMode b x (besides c vstart vxsat) a base m ≡ byMode b x c a base m
-unfolding byMode
-mode-besides b x c a base vstart vxsat M.Unit = refl
-mode-besides b x c a base vstart vxsat (M.Strided r) = refl
-mode-besides b x c a base vstart vxsat (M.Indexed r) = refl
-mode-besides b x c a base vstart vxsat M.MaskBytes = refl
-mode-besides b x c a base vstart vxsat (M.Whole n) = refl
 
 plan-besides : (b : Board) (i : Instruction) (x : List ℕ) (c : Control) (vstart vxsat : ℕ) (e : Elementwise)
     → IsPlan b i x c e → IsPlan b i x (besides c vstart vxsat) e
@@ -58,7 +40,7 @@ plan-besides b I.Illegal x c vstart vxsat e h = h
 plan-besides b (I.Setting t) x c vstart vxsat e h = h
 plan-besides b (I.Mask m) x c vstart vxsat e h = h
 plan-besides b (I.Arithmetic a) x c vstart vxsat e h = h
-plan-besides b (I.Memory a) x c vstart vxsat e h = h ∙ sym (mode-besides b x c a _ vstart vxsat (a .mode))
+plan-besides b (I.Memory a) x c vstart vxsat e h = h ∙ sym (transferring-besides b a x c vstart vxsat)
 
 -- ---- the theory's instruction by its plan
 
@@ -115,18 +97,14 @@ carried b i registers memory scalars c v vxsat (fault y) s h = cc
 carried b i registers memory scalars c v vxsat (write (toRegisters g k r)) s h = let e : s ≡ r .saturates = cc in rw e
 carried b i registers memory scalars c v vxsat (write (toMemory a n x)) s h = let e : s ≡ false = cc in rw e
 
--- ---- what a legal instruction's state keeps to
-
-or-none : (v : Verdict) (o : Option Answer) → orElse v o ≡ none → v ≡ Accepted
-or-none Accepted o h = refl
-or-none (Refused a) o h = cc
-
-acceptable : (b : Board) (i : Instruction) (rights : List ℕ) (s : Core) (v : ℕ) → refusalAt b i rights s v ≡ none
-    → Acceptable b (length (s .registers)) (length (s .scalars)) (length (s .memory)) rights (besides (s .control) v (s .control .vxsat))
-unfolding refusalAt
-acceptable b i rights s v h = accepted-facts b _ _ _ rights _ (or-none _ _ h)
-
 -- ---- the loop
+
+-- the index of an element that remains, by the number that it is below
+pub index-fits : (a v k remaining : ℕ) → remaining ≡ a - v → k < remaining → Fits w64 a → Fits w64 (v + k)
+index-fits a v k remaining u h f = record { fits = omega (arith, f .fits) }
+
+pub next-index : (a v x k remaining most : ℕ) → remaining ≡ a - v → most ≡ min x remaining → k < most → Fits w64 a → Fits w64 (v + k)
+next-index a v x k remaining most u m h f = index-fits a v k remaining u (omega arith) f
 
 -- the state of the theory while the loop runs
 abbrev coreNow : List ℕ → Control → List ℕ → List ℕ → ℕ → Core
@@ -166,20 +144,16 @@ module _ (b : Board) (e : Elementwise) (registers₀ scalars memory₀ rights : 
     the-end = plan-end b e (coreNow scalars c registers₀ memory₀ (c .vxsat)) i (the-plan (c .vxsat))
 
     the-facts : Acceptable b (length registers₀) (length scalars) (length memory₀) rights (besides c (c .vstart) (c .vxsat))
-    the-facts = acceptable b i rights (coreNow scalars c registers₀ memory₀ (c .vxsat)) (c .vstart) (l .is-legal)
+    the-facts = facts b i rights (coreNow scalars c registers₀ memory₀ (c .vxsat)) (c .vstart) (l .is-legal) .acceptable
 
-    pub rights-length : length rights ≡ 256
-    rights-length = the-facts .rights-length
-
-    -- the index of an element that remains
-    pub index-fits : (k remaining : ℕ) → remaining ≡ e .end - c .vstart → k < remaining → Fits w64 (c .vstart + k)
-    index-fits k remaining u h =
+    pub end-fits : Fits w64 (e .end)
+    end-fits =
         let n : endOf b i (coreNow scalars c registers₀ memory₀ (c .vxsat)) ≤ 2 ^ 32 - 1 =
         the-lawful .bounded rights (coreNow scalars c registers₀ memory₀ (c .vxsat)) (c .vstart) (l .is-legal) in
         record { fits = omega (arith, the-end) }
 
-    pub next-index : (k remaining most : ℕ) → remaining ≡ e .end - c .vstart → most ≡ min allowance remaining → k < most → Fits w64 (c .vstart + k)
-    next-index k remaining most u v h = index-fits k remaining u (omega arith)
+    pub rights-length : length rights ≡ 256
+    rights-length = the-facts .rights-length
 
     -- what a turn that ends so leaves
     ended : (r : Turned) (registers memory : List ℕ) (o : Outcome (instructionOf b i)) → turn (instructionOf b i) (the-turn i) (the-point i) ≡ o
@@ -204,51 +178,54 @@ module _ (b : Board) (e : Elementwise) (registers₀ scalars memory₀ rights : 
       pub memory-bound : length memory ≤ 65536
       memory-bound = rw (g .memory-length) (the-facts .memory-length)
 
-      pub next-ready : (remaining most : ℕ) → remaining ≡ e .end - c .vstart → most ≡ min allowance remaining → k < most
+      pub next-ready : (x remaining most : ℕ) → remaining ≡ e .end - c .vstart → most ≡ min x remaining → k < most
           → Ready (length registers) (b .vlenb) e (c .vstart + k)
-      next-ready remaining most u v h = rw file-length (ready b i (given registers₀ scalars memory₀ rights c) e l (c .vstart + k) (omega arith))
+      next-ready x remaining most u v h = rw file-length (ready b i (given registers₀ scalars memory₀ rights c) e l (c .vstart + k) (omega arith))
 
-      pub next-fits : (remaining most : ℕ) → remaining ≡ e .end - c .vstart → most ≡ min allowance remaining → k < most
+      pub next-fits : (x remaining most : ℕ) → remaining ≡ e .end - c .vstart → most ≡ min x remaining → k < most
           → ActionFits (b .vlenb) registers e (c .vstart + k) (e .action)
-      next-fits remaining most u v h = action-fits b i (given registers₀ scalars memory₀ rights c) e l registers (g .bytes) file-length (c .vstart + k) (omega arith)
+      next-fits x remaining most u v h = action-fits b i (given registers₀ scalars memory₀ rights c) e l registers (g .bytes) file-length (c .vstart + k) (omega arith)
 
-      pub trap-left : (remaining most : ℕ) (step : Step) (x : Answer) (a : ℕ) (registers′ memory′ : List ℕ) (control : Control)
+      pub trap-left : (remaining most : ℕ) (step : Step) (x : Answer) (a : ℕ) (registers′ memory′ : List ℕ) (r : Turned)
+          → r ≡ record { answer = x; passed = k; address = a; control = besides c (c .vstart + k) vxsat }
           → remaining ≡ e .end - c .vstart → most ≡ min allowance remaining → k < most
           → ((x : List ℕ) (d : Control) → Did (b .vlenb) (effectOf b rights (coreAt registers memory x d) e (c .vstart + k)) registers memory step registers′ memory′)
-          → step ≡ S.Fault x a → control ≡ besides c (c .vstart + k) vxsat
-          → left (record { answer = x; passed = k; address = a; control = control }) registers′ scalars memory′ rights
+          → step ≡ S.Fault x a
+          → left r registers′ scalars memory′ rights
           ≡ turnBy b i allowance (given registers₀ scalars memory₀ rights c)
-      trap-left remaining most step x a registers′ memory′ control u v h did q r =
+      trap-left remaining most step x a registers′ memory′ r z u v h did q =
           let f : Effect Fault Write = effectOf b rights (coreNow scalars c registers memory vxsat) e (c .vstart + k) in
           let d : Did (b .vlenb) f registers memory step registers′ memory′ = did scalars (besides c 0 vxsat) in
           let y : Fault = record { answer = x; address = a } in
-          let z : f ≡ fault y = step-fault f x a (sym q ∙ d .step) in
-          let m : registers′ ≡ registers = d .registers ∙ ap (λ (u : Effect Fault Write). registersAfter (b .vlenb) u registers) z in
-          let n : memory′ ≡ memory = d .memory ∙ ap (λ (u : Effect Fault Write). memoryAfter u memory) z in
+          let p : f ≡ fault y = step-fault f x a (sym q ∙ d .step) in
+          let m : registers′ ≡ registers = d .registers ∙ ap (λ (u : Effect Fault Write). registersAfter (b .vlenb) u registers) p in
+          let n : memory′ ≡ memory = d .memory ∙ ap (λ (u : Effect Fault Write). memoryAfter u memory) p in
           ended _ registers′ memory′ _
           (passed-trap (instructionOf b i) the-lawful (the-turn i) (the-point i) k (coreNow scalars c registers memory vxsat) the-passed y
-          (rw the-end (omega arith)) (the-effect ∙ z))
-          (rw (m, n, r))
+          (rw the-end (omega arith)) (the-effect ∙ p))
+          (rw (z, m, n))
 
-      pub pause-left : (remaining most : ℕ) (control : Control) → remaining ≡ e .end - c .vstart → most ≡ min allowance remaining → most ≤ k → k < remaining
-          → control ≡ besides c (c .vstart + k) vxsat
-          → left (record { answer = Paused; passed = k; address = 0; control = control }) registers scalars memory rights
+      pub pause-left : (remaining most : ℕ) (r : Turned)
+          → r ≡ record { answer = Paused; passed = k; address = 0; control = besides c (c .vstart + k) vxsat }
+          → remaining ≡ e .end - c .vstart → most ≡ min allowance remaining → most ≤ k → k < remaining
+          → left r registers scalars memory rights
           ≡ turnBy b i allowance (given registers₀ scalars memory₀ rights c)
-      pause-left remaining most control u v h m r =
+      pause-left remaining most r z u v h m =
           ended _ registers memory _
           (passed-pause (instructionOf b i) the-lawful (the-turn i) (the-point i) k (coreNow scalars c registers memory vxsat) the-passed
           (omega (arith, the-within)) (rw the-end (omega arith)))
-          (rw r)
+          (rw z)
 
-      pub finish-left : (remaining : ℕ) (control : Control) → remaining ≡ e .end - c .vstart → remaining ≤ k
-          → control ≡ besides c 0 vxsat
-          → left (record { answer = Finished; passed = k; address = 0; control = control }) registers scalars memory rights
+      pub finish-left : (remaining : ℕ) (r : Turned)
+          → r ≡ record { answer = Finished; passed = k; address = 0; control = besides c 0 vxsat }
+          → remaining ≡ e .end - c .vstart → remaining ≤ k
+          → left r registers scalars memory rights
           ≡ turnBy b i allowance (given registers₀ scalars memory₀ rights c)
-      finish-left remaining control u h r =
+      finish-left remaining r z u h =
           ended _ registers memory _
           (passed-finish (instructionOf b i) the-lawful (the-turn i) (the-point i) k (coreNow scalars c registers memory vxsat) the-passed
           (rw the-end (omega (arith, the-within))))
-          (rw (r, plan-result b e (coreNow scalars c registers memory vxsat) i (the-plan vxsat)))
+          (rw (z, plan-result b e (coreNow scalars c registers memory vxsat) i (the-plan vxsat)))
 
   pub going-more : (remaining most k : ℕ) (registers memory : List ℕ) (vxsat : ℕ) (step : Step) (saturates : Bool) (registers′ memory′ : List ℕ) (vxsat′ : ℕ)
       → Going k registers memory vxsat → remaining ≡ e .end - c .vstart → most ≡ min allowance remaining → k < most

@@ -4,17 +4,13 @@ use mathlib.Core.Path.{_≡_, refl, sym, ap, _∙_, subst}
 use mathlib.Core.Logic.{⊎-elim}
 use mathlib.Core.Bool.{Bool, true, false, not, _||_, cond}
 use mathlib.Core.List.{List}
-use mathlib.Core.Option.{Option, none, some}
 use native.Mathlib.Omega.{arith}
 use native.Mathlib.Nat.{mul-le-mul-right, div-mul-le-self}
 use lib.ListN.{length}
 use lib.Dec.{T, eqb, lit<}
 use borrow.Author.Tests.{eqb-true, leb-true}
 use Rattle.laws.proofs.Apart.{both-left, both-right, or-cases}
-use Rattle.answer.specs.declared.Answer.{Answer}
-use Rattle.answer.specs.declared.Answer.the-variants.{Illegal}
-use Rattle.answer.specs.declared.Verdict.{Verdict}
-use Rattle.answer.specs.declared.Verdict.the-variants.{Accepted, Refused}
+use Rattle.laws.proofs.Chain.{either}
 use Rattle.operation.specs.declared.Size.{Size}
 use Rattle.operation.specs.declared.Size.the-variants.{Absent, Bit, Eighth, Quarter, Half, Single, Double}
 use Rattle.operation.specs.Shape.{eewOf, shapeOf, isDouble, largestSew}
@@ -39,47 +35,33 @@ use Rattle.layout.proofs.ElementLaws.{element-lt}
 use Rattle.group.specs.declared.Group.{Group}
 use Rattle.group.specs.Group.{maskGroup, registersOf, placedOf, mayOverlapOf}
 use Rattle.group.proofs.GroupLaws.{placed-facts}
-use Rattle.refusal.specs.Refusal.{refusalOf}
-use Rattle.refusal.proofs.RefusalLaws.{accepted-facts}
 use Rattle.elementwise.specs.declared.Read.{Read}
 use Rattle.elementwise.specs.declared.Read.the-variants as R
 use Rattle.elementwise.specs.declared.Action.the-variants as A
 use Rattle.elementwise.specs.declared.Transfer.{Transfer}
 use Rattle.elementwise.specs.declared.Elementwise.{Elementwise}
 use Rattle.elementwise.specs.Elementwise.{groupAt, readAt, secondOf, computingOf, movingOf, byMode, transferringOf, readFits, writesRegisters, legalOf, ReadInRange, InRange}
+use Rattle.elementwise.proofs.AccessLaws.{one-of, eew-low}
 use Rattle.elementwise.proofs.ElementwiseLaws.{computing-range, transferring-range, dest-width, vs1-constant}
-use Rattle.machine.specs.State.{State}
+use Rattle.machine.specs.State.{State, coreOf}
 use Rattle.machine.specs.Effect.{valueOf}
-use Rattle.machine.specs.Machine.{orElse, existsAt, legalAt, refusalAt}
+use Rattle.machine.specs.Machine.{existsAt, legalAt}
+use Rattle.machine.proofs.Lawful.{facts}
 use Rattle.machine.proofs.Geometry.{power-of, product-power, Power, placed-extent, placed-ends}
-use Rattle.machine.proofs.ElementwiseFacts.{Operand, constant, bit, element, OfV0, unused, used, Typed, typed-extent, legal-at, computing-typed, transferring-end, unit-typed, strided-typed, indexed-typed, one-of, eew-width, eew-low}
+use Rattle.machine.proofs.ElementwiseFacts.{Operand, constant, bit, element, OfV0, unused, used, Typed, typed-extent, legal-at, computing-typed, transferring-end, unit-typed, strided-typed, indexed-typed, eew-width}
 use Rattle.step.specs.Step.{Ready, ReadInside, ActionFits}
 use Rattle.turn.specs.Ran.{Legal}
 
 -- ---- an instruction that is not refused
-
-accepted : (v : Verdict) (o : Option Answer) → orElse v o ≡ none → v ≡ Accepted
-accepted Accepted o h = refl
-accepted (Refused a) o h = cc
-
-passed : (v : Verdict) (t : Bool) → orElse v (cond t none (some Illegal)) ≡ none → t ≡ true
-passed Accepted true h = refl
-passed Accepted false h = cc
-passed (Refused a) t h = cc
 
 record Allowed (b : Board) (i : Instruction) (s : State) : Type 0 where
   possible : Possible b (s .control)
   legal : legalAt b i (s .scalars) (s .control) ≡ true
 
 allowed : (b : Board) (i : Instruction) (s : State) (e : Elementwise) → Legal b i s e → Allowed b i s
-unfolding refusalAt
 allowed b i s e l =
-    let v : Verdict = refusalOf b (length (s .registers)) (length (s .scalars)) (length (s .memory)) (s .rights) (s .control) in
-    let t : Bool = legalAt b i (s .scalars) (s .control) in
-    record {
-      possible = possible-apart b (s .control) (accepted-facts b _ _ _ (s .rights) (s .control) (accepted v (cond t none (some Illegal)) (l .is-legal)) .possible);
-      legal = passed v t (l .is-legal);
-    }
+    let f = facts b i (s .rights) (coreOf s) (s .control .vstart) (l .is-legal) in
+    record { possible = possible-apart b (s .control) (f .acceptable .possible); legal = f .legal }
 
 -- ---- where elements lie
 
@@ -128,8 +110,7 @@ typed-ready b v e k w y h u l =
 -- of registers whatever the vtype
 if-inside : (size vlenb : ℕ) (t : Bool) (g : Group) (k : ℕ) → Inside size vlenb (g .reg) (g .eew) k → ReadInside size vlenb (cond t (R.Element g) (R.Constant 0)) k
 unfolding ReadInside
-if-inside size vlenb true g k h = h
-if-inside size vlenb false g k h = tt
+if-inside size vlenb t g k h = either (λ r. ReadInside size vlenb r k) t (R.Element g) (R.Constant 0) (λ e. h) (λ e. tt)
 
 alone-ready : (b : Board) (a : Access) (base : ℕ) (g : Group) (stride bytes end k : ℕ) → Inside (32 * b .vlenb) (b .vlenb) (g .reg) (g .eew) k → k < 8 * b .vlenb
     → Ready (32 * b .vlenb) (b .vlenb) (movingOf a base g (R.Constant 0) stride bytes end) k
@@ -203,10 +184,6 @@ double Half h = cc
 double Single h = cc
 double Double h = refl
 
-chosen-le : (n : ℕ) (t : Bool) → n ≤ 64 → (t ≡ true → n ≤ 32) → n ≤ cond t 32 64
-chosen-le n true h k = k refl
-chosen-le n false h k = h
-
 double-vs2 : (b : Board) (v reg : ℕ) (writes : Bool) (d : Group) → Valid b → readFits (b .elen) writes d (readAt v Double reg) ≡ true → sewOf v ≤ 32
 unfolding readFits readAt
 double-vs2 b v reg writes d w t =
@@ -230,8 +207,9 @@ module _ (b : Board) (x : List ℕ) (c : Control) (a : Arithmetic) (w : Valid b)
       λ q. double-vs2 b (c .vtype) (a .vs2) true (computingOf x c a .dest) w
       (subst (λ (z : Size). readFits (b .elen) true (computingOf x c a .dest) (readAt (c .vtype) z (a .vs2)) ≡ true) (double (s .vs2) q) (f .vs2)) in
       let narrow : s .narrow ≡ true → sewOf (c .vtype) ≤ 32 = λ q. leb-true (sewOf (c .vtype)) 32 (rw q at t) in
-      chosen-le (sewOf (c .vtype)) (s .narrow || (isDouble (s .vd) || isDouble (s .vs2))) (supported-sew-le b (c .vtype) w (y .supported))
+      either (λ n. sewOf (c .vtype) ≤ n) (s .narrow || (isDouble (s .vd) || isDouble (s .vs2))) 32 64
       (λ q. ⊎-elim narrow (λ q. ⊎-elim at-vd at-vs2 (or-cases (isDouble (s .vd)) _ q)) (or-cases (s .narrow) _ q))
+      (λ q. supported-sew-le b (c .vtype) w (y .supported))
 
   computing-fits : ArithmeticFits a → SizeFits (shapeOf (a .op) .vs1) (a .source) → existsAt c a ≡ true → legalOf (b .elen) (computingOf x c a) ≡ true
       → (file : List ℕ) → Bytes file → (k : ℕ) → ActionFits (b .vlenb) file (computingOf x c a) k (computingOf x c a .action)

@@ -1,8 +1,8 @@
 -- A turn of a word by the tests of the code: refused, illegal, of one turn, or legal with elements.
-use Prim.Native.Nat.{ℕ, zero, _≤_, min}
+use Prim.Native.Nat.{ℕ, zero, _≤_}
 use mathlib.Core.Path.{_≡_, refl, sym, ap, _∙_}
 use mathlib.Core.Logic.{⊎-elim}
-use mathlib.Core.Bool.{Bool, true, false, _&&_, _||_, cond}
+use mathlib.Core.Bool.{Bool, true, false, _&&_, _||_}
 use mathlib.Core.List.{List}
 use mathlib.Core.Option.{none, some}
 use native.Mathlib.Omega.{arith}
@@ -15,11 +15,9 @@ use Rattle.answer.specs.declared.Verdict.{Verdict}
 use Rattle.answer.specs.declared.Verdict.the-variants.{Accepted, Refused}
 use Rattle.control.specs.declared.Board.{Board}
 use Rattle.control.specs.declared.Control.{Control}
-use Rattle.control.specs.declared.Avl.{Avl}
-use Rattle.control.specs.declared.Avl.the-variants.{To, Keep}
 use Rattle.control.specs.Board.{Valid, base}
-use Rattle.control.specs.Vtype.{vlmaxOf, supportedOf, sewOf}
-use Rattle.control.specs.Control.{typedOf as settled, villOf, keepsOf, setOf}
+use Rattle.control.specs.Vtype.{sewOf}
+use Rattle.control.specs.Control.{setOf}
 use Rattle.control.proofs.Laws.{Possible, possible-apart, typed-well-apart, supported-sew-le}
 use Rattle.decode.specs.declared.Instruction.{Instruction}
 use Rattle.decode.specs.declared.Instruction.the-variants as I
@@ -39,6 +37,7 @@ use Rattle.turns.proofs.Laws.{turn-refused, one-turn}
 use Rattle.machine.specs.State.{State, Outcome, Core, withVstart, coreOf}
 use Rattle.machine.specs.OneTurn.{withScalar, avlFrom, typeFrom}
 use Rattle.machine.specs.Machine.{typedOf, maskApart, isWhole, existsAt, legalAt, refusalAt, endOf, resultAt, instructionOf, outcomeOf, turnOf}
+use Rattle.machine.proofs.Demands.{set-vstart}
 use Rattle.oneturn.specs.Lists.{Holds, lists, maskLists}
 use Rattle.oneturn.proofs.ResultLaws.{setting-result, mask-result}
 use Rattle.turn.specs.declared.Turned.{Turned}
@@ -143,27 +142,17 @@ pub ruleset refusing = (refused-turn, legality)
 
 -- ---- instructions of one turn
 
--- a setting instruction leaves vstart 0
-set-at : (t : Bool) (c : Control) (v vl : ℕ) → withVstart (cond t (settled c v vl) (villOf c)) 0 ≡ cond t (settled c v vl) (villOf c)
-set-at true c v vl = refl
-set-at false c v vl = refl
-
-set-restarts : (b : Board) (c : Control) (v : ℕ) (avl : Avl) → withVstart (setOf b c v avl) 0 ≡ setOf b c v avl
-unfolding setOf
-set-restarts b c v (To n) = set-at (supportedOf b v) c v (min n (vlmaxOf b v))
-set-restarts b c v Keep = set-at (supportedOf b v && keepsOf b c v) c v (c .vl)
-
 pub setting-turn : (b : Board) (t : Setting) (n : ℕ) (file x x′ memory rights : List ℕ) (c next : Control) (r : Turned)
     → refusalOf b (length file) (length x) (length memory) rights c ≡ Accepted
     → next ≡ setOf b c (typeFrom x (t .vtype)) (avlFrom x (t .avl)) → x′ ≡ withScalar x (t .rd) (next .vl) → r ≡ still Finished next
     → left r file x′ memory rights ≡ turnBy b (I.Setting t) n (given file x memory rights c)
 unfolding legalAt endOf resultAt
 setting-turn b t n file x x′ memory rights c next r h q w e =
-    let z : next ≡ withVstart next 0 = rw q (sym (set-restarts b c (typeFrom x (t .vtype)) (avlFrom x (t .avl)))) in
+    let z : next .vstart ≡ 0 = rw q (set-vstart b c (typeFrom x (t .vtype)) (avlFrom x (t .avl))) in
     one-turn-is b (I.Setting t) n file x memory rights c r (record { registers = file; scalars = x′; memory = memory; control = next })
     (word-legal b (I.Setting t) file x memory rights c h refl) refl
     (setting-result b t (coreOf (given file x memory rights c)) c next x′ refl q w)
-    (e ∙ ap (still Finished) z)
+    (e ∙ ap (λ (v : ℕ). still Finished (withVstart next v)) z)
 
 -- an instruction on masks is legal only at vstart 0, so that vstart stays
 vstart-is : (b : Board) (m : MaskInstruction) (x : List ℕ) (c : Control) → legalAt b (I.Mask m) x c ≡ true → c .vstart ≡ 0

@@ -1,7 +1,6 @@
 -- What a call of `turn` is given and leaves, in the definition's terms.
 use Prim.Native.Nat.{ℕ}
 use mathlib.Core.Path.{_≡_}
-use mathlib.Core.Bool.{Bool, true, false, cond}
 use mathlib.Core.List.{List}
 use mathlib.Core.Option.{none}
 use Rattle.control.specs.declared.Board.{Board}

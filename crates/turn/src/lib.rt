@@ -1,7 +1,7 @@
 // One turn of any word on any state.
 ghost use mathlib.Core.Path.{_≡_};
 ghost use mathlib.Core.Bool.{cond};
-ghost use Prim.Native.Nat.{_-_, min};
+ghost use Prim.Native.Nat.{_-_};
 ghost use lib.ListN.{length};
 ghost use Rattle.control.specs.Board.{Valid, base};
 ghost use Rattle.decode.specs.declared.Instruction.the-variants as I;
@@ -45,16 +45,21 @@ fn answered(answer: Answer, control: Control) -> Turned
     }
 }
 
-// The record with another vstart and vxsat.
-fn moved(control: Control, vstart: u64, vxsat: u64) -> Control
-    ensures { λ r. ⌜ r ≡ record { vtype = control .vtype; vl = control .vl; vstart = vstart; vxrm = control .vxrm; vxsat = vxsat } ⌝ }
+// An answer that leaves the control record with another vstart and vxsat.
+fn ended(answer: Answer, passed: u64, address: u64, c: Control, vstart: u64, vxsat: u64) -> Turned
+    ensures { λ r. ⌜ r ≡ record { answer = answer; passed = passed; address = address; control = record { vtype = c .vtype; vl = c .vl; vstart = vstart; vxrm = c .vxrm; vxsat = vxsat } } ⌝ }
 {
-    Control {
-        vtype: control.vtype,
-        vl: control.vl,
-        vstart,
-        vxrm: control.vxrm,
-        vxsat,
+    Turned {
+        answer,
+        passed,
+        address,
+        control: Control {
+            vtype: c.vtype,
+            vl: c.vl,
+            vstart,
+            vxrm: c.vxrm,
+            vxsat,
+        },
     }
 }
 
@@ -62,12 +67,6 @@ fn less(a: u64, b: u64) -> u64
     ensures { λ r. ⌜ r ≡ a - b ⌝ }
 {
     if a < b { 0 } else { a - b }
-}
-
-fn smaller(a: u64, b: u64) -> u64
-    ensures { λ r. ⌜ r ≡ min a b ⌝ }
-{
-    if a < b { a } else { b }
 }
 
 // vxsat after an element that saturates or not.
@@ -94,19 +93,14 @@ fn elements(
 {
     let vstart = control.vstart;
     let remaining = less(e.end, vstart);
-    let most = smaller(allowance, remaining);
+    let most = control::smaller(allowance, remaining);
     let mut vxsat = control.vxsat;
     let mut k: u64 = 0;
     while k < most {
         let step = step::perform(registers, memory, rights, board, e, (vstart + k) as usize);
         match step {
             Step::Fault(answer, address) => {
-                return Turned {
-                    answer,
-                    passed: k,
-                    address,
-                    control: moved(control, vstart + k, vxsat),
-                };
+                return ended(answer, k, address, control, vstart + k, vxsat);
             }
             Step::Next(saturates) => {
                 vxsat = saturated(vxsat, saturates);
@@ -115,19 +109,10 @@ fn elements(
         }
     }
     if k < remaining {
-        return Turned {
-            answer: Answer::Paused,
-            passed: k,
-            address: 0,
-            control: moved(control, vstart + k, vxsat),
-        };
+        let next = vstart + k;
+        return ended(Answer::Paused, k, 0, control, next, vxsat);
     }
-    Turned {
-        answer: Answer::Finished,
-        passed: k,
-        address: 0,
-        control: moved(control, 0, vxsat),
-    }
+    ended(Answer::Finished, k, 0, control, 0, vxsat)
 }
 
 // ---- legality

@@ -13,10 +13,6 @@ use native.Mathlib.Nat.{add-zero, add-suc, suc-add, zero-add, le-refl}
 use Rattle.turns.specs.Turn.{Effect, idle, fault, write, faults, Instruction, finished, paused, trapped, refused, Point, Outcome, Turn, carry, written, clean, until, trap, remaining, passing, ended, legal, answered, turn, turns, inPlace, NoneFinishes, Opening, lastRights, uncutAllowance}
 use Rattle.turns.specs.Claims.{Lawful, Progress, passes, traps, finishes, Splits, InPlace, Progresses, Monotone, Uncut}
 
-until-le : (b : Bool) (k n : ℕ) → k ≤ n → until b k ≤ suc n
-until-le true k n h = omega arith
-until-le false k n h = omega arith
-
 until-false : (b : Bool) (k d : ℕ) → d < until b k → b ≡ false
 until-false true k d h = absurd (omega arith)
 until-false false k d h = refl
@@ -48,11 +44,6 @@ module _ (I : Instruction) where
   written-cut r s₀ i (suc a) b s = rw (suc-add, add-suc) (written-cut r s₀ (suc i) a b (carry I (I .effect r s₀ i) s) ∙ rw suc-add)
 
   -- what `clean` counts
-  pub clean-le : (r : I .Rights) (s : I .State) (i n : ℕ) → clean I r s i n ≤ n
-  unfolding clean
-  clean-le r s i zero = omega arith
-  clean-le r s i (suc n) = until-le (faults (I .effect r s i)) (clean I r s (suc i) n) n (clean-le r s (suc i) n)
-
   clean-at : (r : I .Rights) (s : I .State) (i n d : ℕ) → d < clean I r s i n → faults (I .effect r s (i + d)) ≡ false
   unfolding clean
   clean-at r s i zero d h = absurd (omega arith)

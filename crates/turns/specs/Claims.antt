@@ -1,10 +1,10 @@
 -- What is claimed of every instruction run in turns. `Laws` of proofs/ proves each claim.
 use mathlib.Core.Path.{_≡_}
-use mathlib.Core.Bool.{Bool, true, false}
-use mathlib.Core.List.{List, [], _∷_}
-use mathlib.Core.Option.{Option, none, some}
-use Prim.Native.Nat.{ℕ, zero, suc, _+_, _-_, _≤_, _<_, min}
-use Rattle.turns.specs.Turn.{Effect, idle, fault, write, faults, Instruction, finished, paused, trapped, refused, Point, Outcome, Turn, written, inPlace, turn, turns, NoneFinishes, Opening, lastRights, uncutAllowance, uncutRun}
+use mathlib.Core.Bool.{false}
+use mathlib.Core.List.{List}
+use mathlib.Core.Option.{none}
+use Prim.Native.Nat.{ℕ, zero, _+_, _-_, _≤_, _<_}
+use Rattle.turns.specs.Turn.{write, faults, Instruction, finished, trapped, Point, Outcome, Turn, written, inPlace, turn, turns, NoneFinishes, Opening, lastRights, uncutAllowance, uncutRun}
 
 -- An instruction is lawful if no element changes what a later one does, and raised rights change only elements that fault.
 pub record Lawful (I : Instruction) : Type 0 where

@@ -1,7 +1,7 @@
 -- An integer as a difference of two naturals, `subℕ p n`, which is p − n: the operations of ℤ on differences, so that a fact about
 -- integers becomes one about naturals, which omega proves. Assumes nothing.
 use mathlib.Core.Path.{_≡_, refl, sym, ap, _∙_}
-use mathlib.Core.Bool.{Bool, true, false, cond, not, true≢false, false≢true}
+use mathlib.Core.Bool.{Bool, true, false, cond, not}
 use Prim.Native.Nat.{ℕ, zero, suc, _+_, _-_, _*_, _/_, _%_, _^_, _≤_, _<_}
 use native.Mathlib.Nat.{div-add-mod', lt-of-not-le, sub-zero, mod-eq-of-lt, mod-lt, mul-add-mod-self-right}
 use native.Mathlib.Decide.{decLe}
@@ -142,21 +142,6 @@ nlt-diff p n q m h = go (decLe n p) (decLe m q)
         let f : p < n = lt-of-not-le k in
         let g : q < m = lt-of-not-le l in
         rw (diff-neg p n f, diff-neg q m g) (le-ltb (m - suc q) (n - suc p) (omega arith))
-
--- a test of differences, read back
-pub lt-diff-yes : (p n q m : ℕ) → ltZ (subℕ p n) (subℕ q m) ≡ true → p + m < q + n
-lt-diff-yes p n q m t = go (decLe (q + n) (p + m))
-  where
-    go : Dec (q + n ≤ p + m) → p + m < q + n
-    go (yes h) = absurd (false≢true (sym (nlt-diff p n q m h) ∙ t))
-    go (no f) = lt-of-not-le f
-
-pub lt-diff-no : (p n q m : ℕ) → ltZ (subℕ p n) (subℕ q m) ≡ false → q + n ≤ p + m
-lt-diff-no p n q m t = go (decLe (q + n) (p + m))
-  where
-    go : Dec (q + n ≤ p + m) → q + n ≤ p + m
-    go (yes h) = h
-    go (no f) = absurd (true≢false (sym (lt-diff p n q m (lt-of-not-le f)) ∙ t))
 
 leb-is : (a b : ℕ) → leb a b ≡ not (ltb b a)
 leb-is a b = go (decLe a b)

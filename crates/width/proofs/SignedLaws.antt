@@ -11,8 +11,9 @@ use borrow.Author.Tests.{lt-ltb, le-ltb, ltb-true}
 use mir.Syntax.{w64}
 use mir.Val.{toZ, ofZ, SFits}
 use mir.Facts.{toZ-ofZ, toZ-pos}
+use lib.Dec.{lit<}
 use lib.Pow.{pow-mono, pow-pos}
-use Rattle.width.specs.Width.{signed, wrap}
+use Rattle.width.specs.Width.{Width, signed, wrap}
 use Rattle.width.proofs.Diff.{diff-is-neg, diff-is-pos, diff-eq, pos-diff, neg-diff, wrap-is, wrap-cong, mod-is, wrap-diff}
 
 -- `signed` by its two cases
@@ -35,13 +36,6 @@ wrap-signed w x h = go (decLe (2 ^ w) (2 * x))
     go : Dec (2 ^ w ≤ 2 * x) → wrap w (signed w x) ≡ x
     go (yes l) = ap (wrap w) (signed-high w x l) ∙ wrap-is w x (2 ^ w) x 1 0 h (omega arith)
     go (no f) = ap (wrap w) (signed-low w x (lt-of-not-le f) ∙ pos-diff x) ∙ wrap-is w x 0 x 0 0 h (omega arith)
-
--- and from an integer of w bits: −2 ^ (w − 1) ≤ z < 2 ^ (w − 1), said with no halves
-pub signed-wrap : (w : ℕ) (z : ℤ) → 2 * suc (mag z) ≤ 2 ^ w → signed w (wrap w z) ≡ z
-unfolding wrap
-signed-wrap w (pos n) h = ap (signed w) (mod-eq-of-lt (omega arith)) ∙ signed-low w n (omega arith)
-signed-wrap w (negsuc n) h =
-    ap (λ (x : ℕ). signed w (2 ^ w - suc x)) (mod-eq-of-lt (omega arith)) ∙ signed-neg w (2 ^ w - suc n) n (omega arith) (omega arith)
 
 -- −1 − k
 pub comp-pos : (k : ℕ) → negsuc 0 -ℤ pos k ≡ negsuc k
@@ -184,6 +178,10 @@ mul-fits m n x y h l f =
 pub signed-abs : (w k x : ℕ) → 1 ≤ w → w ≤ suc k → x < 2 ^ w → natAbs (signed w x) ≤ 2 ^ k
 signed-abs w k x h l b = natAbs-le (signed w x) (lt-of-lt-of-le (signed-mag w x h b) (pow-mono (omega arith)))
 
+-- of a width that can be doubled
+pub narrow-abs : (w x : ℕ) → Width (2 * w) → x < 2 ^ w → natAbs (signed w x) ≤ 2 ^ 31
+narrow-abs w x s l = signed-abs w 31 x (omega arith) (omega arith) l
+
 -- ---- what an i64 holds after an operation: the machine reads its operands back from their bits
 
 -- a callee's result fits, by its range
@@ -194,11 +192,17 @@ pub shr-back : (x : ℤ) (m : ℕ) → SFits w64 x → toZ w64 (ofZ w64 (shrZ (t
 shr-back x m h =
     ap (λ (z : ℤ). toZ w64 (ofZ w64 (shrZ z m))) (toZ-ofZ h) ∙ toZ-ofZ {w = w64} {z = shrZ x m} (record { sfits = lt-of-le-of-lt (mag-shr x m) (h .sfits) })
 
-pub op-back : (f : ℤ → ℤ → ℤ) (x y : ℤ) → SFits w64 x → SFits w64 y → SFits w64 (f x y) → toZ w64 (ofZ w64 (f (toZ w64 (ofZ w64 x)) (toZ w64 (ofZ w64 y)))) ≡ f x y
-op-back f x y hx hy h = ap₂ (λ (a b : ℤ). toZ w64 (ofZ w64 (f a b))) (toZ-ofZ hx) (toZ-ofZ hy) ∙ toZ-ofZ h
-
 pub op-fits : (f : ℤ → ℤ → ℤ) (x y : ℤ) → SFits w64 x → SFits w64 y → SFits w64 (f x y) → SFits w64 (f (toZ w64 (ofZ w64 x)) (toZ w64 (ofZ w64 y)))
 op-fits f x y hx hy h = subst₂ (λ (a b : ℤ). SFits w64 (f a b)) (sym (toZ-ofZ hx)) (sym (toZ-ofZ hy)) h
+
+-- an operand, and the product of two operands of at most 32 bits
+pub signed-read : (w a : ℕ) (x : ℤ) → x ≡ signed w a → mag x < 2 ^ 63 → toZ w64 (ofZ w64 x) ≡ signed w a
+signed-read w a x e h = toZ-ofZ (in-range h) ∙ e
+
+pub product-fits : (w a b : ℕ) (x y : ℤ) → x ≡ signed w a → y ≡ signed w b → mag x < 2 ^ 63 → mag y < 2 ^ 63 → Width (2 * w) → a < 2 ^ w → b < 2 ^ w
+    → SFits w64 (toZ w64 (ofZ w64 x) *ℤ toZ w64 (ofZ w64 y))
+product-fits w a b x y p q hx hy s h l =
+    rw (signed-read w a x p hx, signed-read w b y q hy) (mul-fits (2 ^ 31) (2 ^ 31) (signed w a) (signed w b) (narrow-abs w a s h) (narrow-abs w b s l) (lit< tt))
 
 pub lt-back : (x y : ℤ) → SFits w64 x → SFits w64 y → ltZ (toZ w64 (ofZ w64 x)) (toZ w64 (ofZ w64 y)) ≡ ltZ x y
 lt-back x y hx hy = ap₂ ltZ (toZ-ofZ hx) (toZ-ofZ hy)

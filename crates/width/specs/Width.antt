@@ -1,7 +1,7 @@
 -- Numbers at a width of w bits. An element is a natural number below 2 ^ w; its signed value is an integer.
 use Prim.Native.Nat.{ℕ, suc, _-_, _*_, _%_, _^_, _≤_}
 use lib.IntN.{ℤ, pos, negsuc, subℕ}
-use mathlib.Core.Bool.{Bool, true, false, cond}
+use mathlib.Core.Bool.{Bool, cond}
 use lib.Dec.{ltb}
 
 -- a width that a u64 holds

@@ -1,7 +1,14 @@
 ghost use mathlib.Core.Path.{_≡_};
-ghost use Prim.Native.Nat.{_+_, _*_, _%_, _^_, _<_, _≤_};
+ghost use Prim.Native.Nat.{_+_, _*_, _%_, _^_, _<_};
 ghost use lib.IntN.{subℕ};
-ghost use Rattle.width.specs.Width.{Width, signed, wrap};
+ghost use Rattle.width.specs.Width.{Width, signed, wrap, flag};
+
+// A mask bit.
+pub fn flagged(test: bool) -> u64
+    ensures { λ r. ⌜ r ≡ flag test ⌝ }
+{
+    if test { 1 } else { 0 }
+}
 
 // The number of sew ones.
 pub fn ones(sew: u64) -> u64

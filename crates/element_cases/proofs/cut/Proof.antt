@@ -3,7 +3,6 @@ use Prim.Native.Nat.{ℕ, _<_, _%_, _^_}
 use lib.Pow.{pow-pos}
 use borrow.Author.Needs.{needs}
 use Rattle.width.proofs.Bounds.{low-lt}
-use Rattle.operation.specs.Shape.{eewOf}
 use Rattle.element_cases.proofs.cut.Statement.{statement}
 use Rattle.element_cases.proofs.cut.Tie as tie
 

@@ -1,6 +1,7 @@
 use borrow.Author.Needs.{needs}
 use Rattle.fixed.specs.Fixed.{vsmul}
-use Rattle.fixed.proofs.ShiftLaws.{clips-rounded, product-fits, product-is}
+use Rattle.width.proofs.SignedLaws.{product-fits}
+use Rattle.fixed.proofs.ShiftLaws.{clips-rounded, product-is}
 use Rattle.fixed.proofs.smul.Statement.{statement}
 use Rattle.fixed.proofs.smul.Tie as tie
 

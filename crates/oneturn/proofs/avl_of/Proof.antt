@@ -1,5 +1,7 @@
 use borrow.Author.Needs.{needs}
-use Rattle.oneturn.proofs.ScalarLaws.{avl-register, avl-by, to-same}
+use Rattle.laws.proofs.Chain.{arm-last}
+use Rattle.machine.specs.OneTurn.{avlFrom}
+use Rattle.oneturn.proofs.ScalarLaws.{avl-register, to-same}
 use Rattle.oneturn.proofs.avl_of.Statement.{statement}
 use Rattle.oneturn.proofs.avl_of.Tie as tie
 
@@ -12,7 +14,7 @@ avl-of-spec =
     (λ c. search needs)
     (λ c. search needs)
     (λ c. search needs)
-    (λ c. search (avl-by, to-same))
-    (λ c. search avl-by)
-    (λ c. search avl-by)
-    (λ c. search avl-by))
+    (λ c. search (arm-last avlFrom, to-same))
+    (λ c. search (arm-last avlFrom))
+    (λ c. search (arm-last avlFrom))
+    (λ c. search (arm-last avlFrom)))

@@ -1,3 +1,4 @@
+use lib.Dec.{lit<}
 use borrow.Author.Needs.{needs}
 use Rattle.oneturn.proofs.MaskLaws.{bit-inside, put-active, put-idle}
 use Rattle.oneturn.proofs.set_bit.Statement.{statement}
@@ -7,7 +8,7 @@ pub set-bit-spec : {M : Type 1} → statement M
 set-bit-spec =
     tie.close
     (tie.spec
-    (λ c κs. search needs)
+    (λ c κs. search (bit-inside, lit<))
     (λ c κs. search needs)
     (λ c κs. search bit-inside)
     (λ c. search needs)

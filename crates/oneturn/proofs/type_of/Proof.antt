@@ -1,5 +1,7 @@
 use borrow.Author.Needs.{needs}
-use Rattle.oneturn.proofs.ScalarLaws.{type-register, type-by}
+use Rattle.laws.proofs.Chain.{arm-last}
+use Rattle.machine.specs.OneTurn.{typeFrom}
+use Rattle.oneturn.proofs.ScalarLaws.{type-register}
 use Rattle.oneturn.proofs.type_of.Statement.{statement}
 use Rattle.oneturn.proofs.type_of.Tie as tie
 
@@ -10,5 +12,5 @@ type-of-spec =
     (λ c. search needs)
     (λ c. search needs)
     (λ c κs. (search needs, search type-register))
-    (λ c. search type-by)
-    (λ c. search type-by))
+    (λ c. search (arm-last typeFrom))
+    (λ c. search (arm-last typeFrom)))

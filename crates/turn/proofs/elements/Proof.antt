@@ -1,7 +1,7 @@
 use Prim.Native.Nat.{_-_}
 use borrow.Author.Needs.{needs}
 use Rattle.layout.proofs.BytesLaws.{slice-bytes}
-use Rattle.turn.proofs.LoopLaws.{Going, going-none, going-more, index-fits, next-index, rights-length, memory-bound, next-ready, next-fits, trap-left, pause-left, finish-left}
+use Rattle.turn.proofs.LoopLaws.{Going, going-none, going-more, index-fits, next-index, end-fits, rights-length, memory-bound, next-ready, next-fits, trap-left, pause-left, finish-left}
 use Rattle.turn.proofs.elements.Statement.{statement}
 use Rattle.turn.proofs.elements.Tie as tie
 
@@ -21,10 +21,10 @@ elements-spec =
     (λ c κs. search needs)
     (λ c κs. search needs)
     (λ c. search (going-none, slice-bytes))
-    (λ c. search next-index)
+    (λ c. search (next-index, end-fits))
     (λ c κs. (search next-ready, (search rights-length, (search memory-bound, search next-fits))))
     (λ c. search needs)
-    (λ c. search next-index)
+    (λ c. search (next-index, end-fits))
     (λ c κs. search needs)
     (λ c. search needs)
     (λ c. search needs)
@@ -34,7 +34,7 @@ elements-spec =
     (λ c. search needs)
     (λ c. search needs)
     (λ c. search (going-more, slice-bytes))
-    (λ c. search index-fits)
+    (λ c. search (index-fits, end-fits))
     (λ c κs. search needs)
     (λ c. search needs)
     (λ c. search needs)

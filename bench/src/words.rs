@@ -1,0 +1,93 @@
+// The words that are timed, and the state that each runs on.
+
+pub struct Row {
+    pub name: &'static str,
+    pub word: u32,
+    pub vtype: u64,
+    pub vl: u64,
+    pub answer: u64,
+    pub registers: usize,
+    pub passed: u64,
+}
+
+const OPIVV: u32 = 0;
+const OPMVV: u32 = 2;
+const OPIVI: u32 = 3;
+
+// A word of opcode OP-V: vm is 1 where the word is not masked.
+const fn op(funct6: u32, vm: u32, vs2: u32, vs1: u32, funct3: u32, vd: u32) -> u32 {
+    funct6 << 26 | vm << 25 | vs2 << 20 | vs1 << 15 | funct3 << 12 | vd << 7 | 0x57
+}
+
+// A vector load (opcode 0x07) or store (0x27), not masked; x10 is the base.
+const fn access(opcode: u32, nf: u32, mop: u32, rs2: u32, width: u32, vd: u32) -> u32 {
+    nf << 29 | mop << 26 | 1 << 25 | rs2 << 20 | 10 << 15 | width << 12 | vd << 7 | opcode
+}
+
+const fn vtype(sew: u64, lmul: u64) -> u64 {
+    let vsew = match sew {
+        8 => 0,
+        16 => 1,
+        32 => 2,
+        _ => 3,
+    };
+    let vlmul = match lmul {
+        8 => 3,
+        4 => 2,
+        2 => 1,
+        _ => 0,
+    };
+    vsew << 3 | vlmul
+}
+
+const fn row(name: &'static str, word: u32, sew: u64, lmul: u64, vl: u64) -> Row {
+    Row {
+        name,
+        word,
+        vtype: vtype(sew, lmul),
+        vl,
+        answer: 0,
+        registers: 512,
+        passed: vl,
+    }
+}
+
+// A word that passes no element: of one turn, illegal or refused.
+const fn one(name: &'static str, word: u32, answer: u64, registers: usize) -> Row {
+    Row {
+        answer,
+        registers,
+        passed: 0,
+        ..row(name, word, 8, 8, 128)
+    }
+}
+
+pub const ROWS: [Row; 26] = [
+    row("vadd.vv e8 m8", op(0x00, 1, 16, 24, OPIVV, 8), 8, 8, 128),
+    row("vadd.vv e8 m8, masked", op(0x00, 0, 16, 24, OPIVV, 8), 8, 8, 128),
+    row("vadd.vv e32 m8", op(0x00, 1, 16, 24, OPIVV, 8), 32, 8, 32),
+    row("vadd.vv e64 m8", op(0x00, 1, 16, 24, OPIVV, 8), 64, 8, 16),
+    row("vadd.vi e8 m8", op(0x00, 1, 16, 5, OPIVI, 8), 8, 8, 128),
+    row("vmacc.vv e8 m8", op(0x2D, 1, 16, 24, OPMVV, 8), 8, 8, 128),
+    row("vwmacc.vv e8 m4", op(0x3D, 1, 16, 24, OPMVV, 8), 8, 4, 64),
+    row("vdiv.vv e8 m8", op(0x21, 1, 16, 24, OPMVV, 8), 8, 8, 128),
+    row("vsmul.vv e8 m8", op(0x27, 1, 16, 24, OPIVV, 8), 8, 8, 128),
+    row("vnclip.wv e8 m4", op(0x2F, 1, 16, 24, OPIVV, 8), 8, 4, 64),
+    row("vaadd.vv e8 m8", op(0x09, 1, 16, 24, OPMVV, 8), 8, 8, 128),
+    row("vmseq.vv e8 m8", op(0x18, 1, 16, 24, OPIVV, 8), 8, 8, 128),
+    row("vmerge.vvm e8 m8", op(0x17, 0, 16, 24, OPIVV, 8), 8, 8, 128),
+    row("vadc.vvm e8 m8", op(0x10, 0, 16, 24, OPIVV, 8), 8, 8, 128),
+    row("vle8.v m8", access(0x07, 0, 0, 0, 0, 8), 8, 8, 128),
+    row("vse8.v m8", access(0x27, 0, 0, 0, 0, 8), 8, 8, 128),
+    row("vle64.v m8", access(0x07, 0, 0, 0, 7, 8), 64, 8, 16),
+    row("vlse8.v m8, stride 3", access(0x07, 0, 2, 11, 0, 8), 8, 8, 128),
+    row("vluxei8.v e8 m8", access(0x07, 0, 1, 16, 0, 8), 8, 8, 128),
+    row("vl8re8.v", access(0x07, 7, 0, 8, 0, 8), 8, 8, 128),
+    row("vmand.mm, vl 128", op(0x19, 1, 2, 3, OPMVV, 1), 8, 8, 128),
+    one("vcpop.m, vl 128", op(0x10, 1, 2, 16, OPMVV, 12), 0, 512),
+    one("vmsbf.m, vl 128", op(0x14, 1, 2, 1, OPMVV, 1), 0, 512),
+    // vsetvli x12, x0, e8 m8: vl becomes 128
+    one("vsetvli", 3 << 20 | 7 << 12 | 12 << 7 | 0x57, 0, 512),
+    one("no word of ours (answer 2)", 0, 2, 512),
+    one("511 bytes of registers (answer 32)", op(0x00, 1, 16, 24, OPIVV, 8), 32, 511),
+];

@@ -1,0 +1,58 @@
+/* A load in three turns: a closed page stops it, then an allowance of 3 pauses it. Then the other calls. bindings/rust/examples/turns.rs prints the same. */
+#include "prashunde.h"
+#include <inttypes.h>
+#include <stdio.h>
+
+static uint8_t registers[512], memory[4096], rights[256];
+static uint64_t scalars[32], control[5];
+
+static void turn(const char *name, uint32_t word, uint32_t allowance)
+{
+    uint64_t passed, address;
+    uint64_t answer = prashunde_turn(word, allowance, registers, sizeof registers, scalars, 32, memory, sizeof memory,
+                                     rights, sizeof rights, control, &passed, &address);
+    printf("%s: answer %" PRIu64 ", passed %" PRIu64 ", address %" PRIu64 ", control %" PRIx64 " %" PRIu64 " %" PRIu64 " %" PRIu64 " %" PRIu64 "\n",
+           name, answer, passed, address, control[0], control[1], control[2], control[3], control[4]);
+}
+
+static void view(size_t first, size_t count)
+{
+    size_t start, length;
+    uint64_t answer = prashunde_view(registers, sizeof registers, first, count, &start, &length);
+    printf("view v%zu, %zu: answer %" PRIu64 ", bytes", first, count, answer);
+    for (size_t i = 0; i < length; i++)
+        printf(" %u", registers[start + i]);
+    printf("\n");
+}
+
+static void csr(uint64_t number, uint64_t written)
+{
+    uint64_t value;
+    uint64_t answer = prashunde_csr_write(number, written, control);
+    uint64_t after = prashunde_csr_read(number, control, &value);
+    printf("csr %" PRIx64 ": write %" PRIu64 ", read %" PRIu64 ", value %" PRIu64 "\n", number, answer, after, value);
+}
+
+int main(void)
+{
+    for (size_t a = 0; a < sizeof memory; a++)
+        memory[a] = a % 251;
+    rights[0] = 2;
+    scalars[10] = 20;
+    scalars[11] = 0xf8;
+    prashunde_reset(control);
+    turn("load at reset", 0x02058407, UINT32_MAX);
+    turn("vsetvli x12, x10, e8, m2", 0x00157657, 1);
+    turn("vle8.v v8, (x11)", 0x02058407, UINT32_MAX);
+    rights[1] = 1;
+    turn("page 1 open", 0x02058407, 3);
+    turn("the rest", 0x02058407, UINT32_MAX);
+    view(8, 2);
+    view(9, 2);
+    csr(0x00f, 15);
+    csr(0xc22, 1);
+    csr(0x001, 1);
+    control[1] = 33;
+    turn("vl above VLMAX", 0x02058407, UINT32_MAX);
+    return 0;
+}

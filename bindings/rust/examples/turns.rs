@@ -1,0 +1,79 @@
+//! A load in three turns: a closed page stops it, then an allowance of 3 pauses it. Then the other calls. bindings/c/turns.c prints the same.
+use prashunde::{csr_read, csr_write, turn, view, Answer, Control};
+
+struct Machine {
+    registers: [u8; 512],
+    scalars: [u64; 32],
+    memory: [u8; 4096],
+    rights: [u8; 256],
+    control: Control,
+}
+
+fn number<T>(result: Result<T, Answer>) -> u64 {
+    result.err().map_or(0, |a| a as u64)
+}
+
+impl Machine {
+    fn turn(&mut self, name: &str, word: u32, allowance: u32) {
+        let t = turn(
+            word,
+            allowance,
+            &mut self.registers,
+            &mut self.scalars,
+            &mut self.memory,
+            &self.rights,
+            &mut self.control,
+        );
+        let c = self.control;
+        println!(
+            "{name}: answer {}, passed {}, address {}, control {:x} {} {} {} {}",
+            t.answer as u64, t.passed, t.address, c.vtype, c.vl, c.vstart, c.vxrm, c.vxsat
+        );
+    }
+
+    fn view(&self, first: usize, count: usize) {
+        let group = view(&self.registers, first, count);
+        print!("view v{first}, {count}: answer {}, bytes", number(group));
+        for byte in group.unwrap_or(&[]) {
+            print!(" {byte}");
+        }
+        println!();
+    }
+
+    fn csr(&mut self, csr: u64, written: u64) {
+        let write = csr_write(csr, written, &mut self.control);
+        let read = csr_read(csr, &self.control);
+        println!(
+            "csr {csr:x}: write {}, read {}, value {}",
+            number(write),
+            number(read),
+            read.unwrap_or(0)
+        );
+    }
+}
+
+fn main() {
+    let mut m = Machine {
+        registers: [0; 512],
+        scalars: [0; 32],
+        memory: std::array::from_fn(|a| (a % 251) as u8),
+        rights: [0; 256],
+        control: Control::reset(),
+    };
+    m.rights[0] = 2;
+    m.scalars[10] = 20;
+    m.scalars[11] = 0xf8;
+    m.turn("load at reset", 0x02058407, u32::MAX);
+    m.turn("vsetvli x12, x10, e8, m2", 0x00157657, 1);
+    m.turn("vle8.v v8, (x11)", 0x02058407, u32::MAX);
+    m.rights[1] = 1;
+    m.turn("page 1 open", 0x02058407, 3);
+    m.turn("the rest", 0x02058407, u32::MAX);
+    m.view(8, 2);
+    m.view(9, 2);
+    m.csr(0x00f, 15);
+    m.csr(0xc22, 1);
+    m.csr(0x001, 1);
+    m.control.vl = 33;
+    m.turn("vl above VLMAX", 0x02058407, u32::MAX);
+}

@@ -1,0 +1,184 @@
+//! A RISC-V vector machine for the classroom. The functions wrap the calls of `include/prashunde.h`, which says what each does. They are safe
+//! on every input: the calls test all that they are given, and slices and references are as the calls need them.
+
+mod ffi {
+    extern "C" {
+        pub fn prashunde_turn(
+            word: u32,
+            allowance: u32,
+            registers: *mut u8,
+            registers_len: usize,
+            scalars: *mut u64,
+            scalars_len: usize,
+            memory: *mut u8,
+            memory_len: usize,
+            rights: *const u8,
+            rights_len: usize,
+            control: *mut u64,
+            passed: *mut u64,
+            address: *mut u64,
+        ) -> u64;
+        pub fn prashunde_csr_read(csr: u64, control: *const u64, value: *mut u64) -> u64;
+        pub fn prashunde_csr_write(csr: u64, value: u64, control: *mut u64) -> u64;
+        pub fn prashunde_view(
+            registers: *const u8,
+            registers_len: usize,
+            first: usize,
+            count: usize,
+            start: *mut usize,
+            length: *mut usize,
+        ) -> u64;
+        pub fn prashunde_reset(control: *mut u64);
+    }
+}
+
+/// What a call answers.
+#[derive(Clone, Copy, Debug, PartialEq, Eq)]
+#[repr(u64)]
+pub enum Answer {
+    Finished = 0,
+    Paused = 1,
+    Illegal = 2,
+    LoadMisaligned = 4,
+    LoadAccess = 5,
+    StoreMisaligned = 6,
+    StoreAccess = 7,
+    BadRegisters = 32,
+    BadScalars = 33,
+    BadMemory = 34,
+    BadRights = 35,
+    BadControl = 36,
+    TwoPages = 37,
+    NoGroup = 38,
+}
+
+impl Answer {
+    fn of(number: u64) -> Answer {
+        use Answer::*;
+        const ALL: [Answer; 14] = [
+            Finished,
+            Paused,
+            Illegal,
+            LoadMisaligned,
+            LoadAccess,
+            StoreMisaligned,
+            StoreAccess,
+            BadRegisters,
+            BadScalars,
+            BadMemory,
+            BadRights,
+            BadControl,
+            TwoPages,
+            NoGroup,
+        ];
+        // each call is proved to return one of these
+        *ALL.iter().find(|a| **a as u64 == number).expect("an answer")
+    }
+
+    fn done(number: u64) -> Result<(), Answer> {
+        match Answer::of(number) {
+            Answer::Finished => Ok(()),
+            refusal => Err(refusal),
+        }
+    }
+}
+
+/// The control record.
+#[derive(Clone, Copy, Debug, PartialEq, Eq)]
+pub struct Control {
+    pub vtype: u64,
+    pub vl: u64,
+    pub vstart: u64,
+    pub vxrm: u64,
+    pub vxsat: u64,
+}
+
+impl Control {
+    /// The record at reset: vill alone.
+    pub fn reset() -> Control {
+        let mut fields = [0; 5];
+        unsafe { ffi::prashunde_reset(fields.as_mut_ptr()) };
+        Control::of(fields)
+    }
+
+    fn of([vtype, vl, vstart, vxrm, vxsat]: [u64; 5]) -> Control {
+        Control {
+            vtype,
+            vl,
+            vstart,
+            vxrm,
+            vxsat,
+        }
+    }
+
+    fn fields(self) -> [u64; 5] {
+        [self.vtype, self.vl, self.vstart, self.vxrm, self.vxsat]
+    }
+}
+
+/// What a turn gives beside what it leaves in the lent parts.
+#[derive(Clone, Copy, Debug, PartialEq, Eq)]
+pub struct Turned {
+    pub answer: Answer,
+    pub passed: u64,
+    pub address: u64,
+}
+
+/// One turn of the instruction `word`, of at most `allowance` elements.
+pub fn turn(
+    word: u32,
+    allowance: u32,
+    registers: &mut [u8],
+    scalars: &mut [u64],
+    memory: &mut [u8],
+    rights: &[u8],
+    control: &mut Control,
+) -> Turned {
+    let mut fields = control.fields();
+    let (mut passed, mut address) = (0, 0);
+    let number = unsafe {
+        ffi::prashunde_turn(
+            word,
+            allowance,
+            registers.as_mut_ptr(),
+            registers.len(),
+            scalars.as_mut_ptr(),
+            scalars.len(),
+            memory.as_mut_ptr(),
+            memory.len(),
+            rights.as_ptr(),
+            rights.len(),
+            fields.as_mut_ptr(),
+            &mut passed,
+            &mut address,
+        )
+    };
+    *control = Control::of(fields);
+    Turned {
+        answer: Answer::of(number),
+        passed,
+        address,
+    }
+}
+
+/// A CSR of the record.
+pub fn csr_read(csr: u64, control: &Control) -> Result<u64, Answer> {
+    let mut value = 0;
+    let number = unsafe { ffi::prashunde_csr_read(csr, control.fields().as_ptr(), &mut value) };
+    Answer::done(number).map(|()| value)
+}
+
+/// Writes a CSR of the record; a refused write changes nothing.
+pub fn csr_write(csr: u64, value: u64, control: &mut Control) -> Result<(), Answer> {
+    let mut fields = control.fields();
+    let number = unsafe { ffi::prashunde_csr_write(csr, value, fields.as_mut_ptr()) };
+    *control = Control::of(fields);
+    Answer::done(number)
+}
+
+/// The bytes of the group of `count` registers from v`first` on.
+pub fn view(registers: &[u8], first: usize, count: usize) -> Result<&[u8], Answer> {
+    let (mut start, mut length) = (0, 0);
+    let number = unsafe { ffi::prashunde_view(registers.as_ptr(), registers.len(), first, count, &mut start, &mut length) };
+    Answer::done(number).map(|()| &registers[start..start + length])
+}

@@ -1,0 +1,172 @@
+// Runs the calls of the control panel and of the register view on given cases. Each line of standard input is a letter and seven numbers of
+// 16 hex digits: 'r' csr, 0, control record; 'w' csr, value, control record; 'v' length of the file, first register, count, and zeros.
+// A read writes one line. A write writes two: by the call that is lent the record, then by the call that takes it by value. A view
+// writes two: by `view_with`, then by `place` and `view`; the start is told by the bytes found there, and a checksum is of all.
+ghost use Prim.Native.Nat.{_≤_, _<_};
+use control::Control;
+use csr::CsrWrite;
+
+fn space() {
+    io::write_all(1, b" ");
+}
+
+fn end_line() {
+    io::write_all(1, b"\n");
+}
+
+// ---- CSR numbers
+
+fn control_of(line: &[u8]) -> Control {
+    Control {
+        vtype: hexadecimal::number(line, 33, 16),
+        vl: hexadecimal::number(line, 49, 16),
+        vstart: hexadecimal::number(line, 65, 16),
+        vxrm: hexadecimal::number(line, 81, 16),
+        vxsat: hexadecimal::number(line, 97, 16),
+    }
+}
+
+fn print_control(control: Control) {
+    io::print_hex(1, control.vtype, 1);
+    space();
+    io::print_decimal(1, control.vl);
+    space();
+    io::print_decimal(1, control.vstart);
+    space();
+    io::print_decimal(1, control.vxrm);
+    space();
+    io::print_decimal(1, control.vxsat);
+}
+
+fn print_written(written: CsrWrite) {
+    let answer = written.answer;
+    let control = written.control;
+    io::print_decimal(1, answer::number(answer));
+    space();
+    print_control(control);
+    end_line();
+}
+
+fn read(line: &[u8]) {
+    let found = csr::read(control_of(line), hexadecimal::number(line, 1, 16));
+    let answer = found.answer;
+    io::print_decimal(1, answer::number(answer));
+    space();
+    io::print_hex(1, found.value, 1);
+    end_line();
+}
+
+fn write(line: &[u8]) {
+    let control = control_of(line);
+    let csr = hexadecimal::number(line, 1, 16);
+    let value = hexadecimal::number(line, 17, 16);
+    print_written(csr_field::written(control, csr, value));
+    print_written(csr::write(control, csr, value));
+}
+
+// ---- the register view
+
+// The first byte of register r is r, and no other 16 bytes are a register's.
+fn fill(file: &mut [u8]) {
+    for k in 0..file.len() {
+        file[k] = ((k / 16 + k % 16 * 16) % 256) as u8;
+    }
+}
+
+fn wide(b: u8) -> u64
+    ensures { λ r. ⌜ r < 256 ⌝ }
+{
+    b as u64
+}
+
+// Where a part begins, by its first byte; 0 of an empty one.
+fn start_of(part: &[u8]) -> u64 {
+    if part.len() == 0 {
+        return 0;
+    }
+    16 * wide(part[0])
+}
+
+fn checksum(part: &[u8]) -> u64 {
+    let mut sum = 0u64;
+    for k in 0..part.len() {
+        sum = sum % 65521 * 31 + wide(part[k]);
+    }
+    sum
+}
+
+fn print_part(answer: u64, start: u64, length: u64, part: &[u8]) {
+    io::print_decimal(1, answer);
+    space();
+    io::print_decimal(1, start);
+    space();
+    io::print_decimal(1, length);
+    space();
+    io::print_decimal(1, checksum(part));
+    end_line();
+}
+
+fn view_with(file: &[u8], first: usize, count: usize) {
+    let mut answer = 0u64;
+    let part = view::view_with(file, first, count, &mut answer);
+    print_part(answer, start_of(part), part.len() as u64, part);
+}
+
+fn view(file: &[u8], first: usize, count: usize) {
+    let place = view::place(file.len(), first, count);
+    let answer = place.answer;
+    let part = view::view(file, first, count);
+    print_part(
+        answer::number(answer),
+        place.start as u64,
+        place.length as u64,
+        part,
+    );
+}
+
+// A length of a case, at most the room that there is.
+fn capped(n: u64, room: usize) -> usize
+    ensures { λ r. ⌜ r ≤ room ⌝ }
+{
+    if n as usize <= room { n as usize } else { room }
+}
+
+fn views(line: &[u8], file: &[u8]) {
+    let n = capped(hexadecimal::number(line, 1, 16), file.len());
+    let first = hexadecimal::number(line, 17, 16) as usize;
+    let count = hexadecimal::number(line, 33, 16) as usize;
+    view_with(&file[..n], first, count);
+    view(&file[..n], first, count);
+}
+
+// ---- the whole
+
+// The next line; false where there is none.
+fn step(file: &[u8]) -> bool {
+    let mut line = [0u8; 114];
+    let n = io::read_full(0, &mut line);
+    if n < 114 {
+        return false;
+    }
+    match line[0] {
+        114 => read(&line),
+        119 => write(&line),
+        118 => views(&line, file),
+        _ => return false,
+    }
+    true
+}
+
+fn read_lines(file: &[u8]) {
+    for _ in 0..1000000usize {
+        if !step(file) {
+            break;
+        }
+    }
+}
+
+fn main() {
+    let mut file = [0u8; 1024];
+    fill(&mut file);
+    read_lines(&file);
+}

@@ -1,0 +1,17 @@
+use borrow.Author.Needs.{needs}
+use Rattle.capi.proofs.Shown.{shown}
+use Rattle.capi.proofs.prashunde_turn.Statement.{statement}
+use Rattle.capi.proofs.prashunde_turn.Tie as tie
+
+pub prashunde-turn-spec : {M : Type 1} → statement M
+prashunde-turn-spec =
+    tie.close
+    (tie.spec
+    (λ c κs. search needs)
+    (λ c κs. search needs)
+    (λ c κs. search needs)
+    (λ c κs. search needs)
+    (λ c. search needs)
+    (λ c. search needs)
+    (λ c. search needs)
+    (λ c. search shown))

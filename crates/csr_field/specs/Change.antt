@@ -1,0 +1,24 @@
+-- Document 01, 'Control panel': "finds the written field changed in it, no other (0x00F writes vxrm and vxsat)".
+use Prim.Native.Nat.{ℕ}
+use mathlib.Core.Bool.{cond}
+use lib.Dec.{eqb}
+use Rattle.control.specs.declared.Control.{Control}
+use Rattle.csr_field.specs.declared.Change.{Change}
+use Rattle.csr_field.specs.declared.Change.the-variants.{Nothing, Vstart, Vxsat, Vxrm, Vcsr}
+
+-- the record after a change
+abbrev pub after : Change → Control → Control
+after Nothing c = c
+after (Vstart x) c = record { vtype = c .vtype; vl = c .vl; vstart = x; vxrm = c .vxrm; vxsat = c .vxsat }
+after (Vxsat x) c = record { vtype = c .vtype; vl = c .vl; vstart = c .vstart; vxrm = c .vxrm; vxsat = x }
+after (Vxrm x) c = record { vtype = c .vtype; vl = c .vl; vstart = c .vstart; vxrm = x; vxsat = c .vxsat }
+after (Vcsr x y) c = record { vtype = c .vtype; vl = c .vl; vstart = c .vstart; vxrm = x; vxsat = y }
+
+-- the field that a CSR number writes, as it is in the record c
+unfoldable pub changeOf : ℕ → Control → Change
+changeOf csr c =
+    cond (eqb csr 0x008) (Vstart (c .vstart))
+    (cond (eqb csr 0x009) (Vxsat (c .vxsat))
+    (cond (eqb csr 0x00A) (Vxrm (c .vxrm))
+    (cond (eqb csr 0x00F) (Vcsr (c .vxrm) (c .vxsat))
+    Nothing)))

@@ -1,0 +1,80 @@
+// The write by CSR number on a lent control record: the written field is changed in it, no other.
+ghost use mathlib.Core.Path.{_≡_};
+ghost use Rattle.control.specs.Board.{base};
+ghost use Rattle.csr.specs.Csr.{writtenOf};
+ghost use Rattle.csr_field.specs.Change.{after, changeOf};
+use answer::Answer;
+use control::Control;
+use csr::CsrWrite;
+
+// What a write stores.
+pub enum Change {
+    Nothing,
+    Vstart(u64),
+    Vxsat(u64),
+    Vxrm(u64),
+    Vcsr(u64, u64),
+}
+
+// What a write comes to.
+pub struct Plan {
+    pub answer: Answer,
+    pub change: Change,
+}
+
+// The fields that a CSR names, as they are in `next`.
+fn change_of(csr: u64, next: Control) -> Change
+    ensures { λ r. ⌜ r ≡ changeOf csr next ⌝ }
+{
+    match csr {
+        0x008 => Change::Vstart(next.vstart),
+        0x009 => Change::Vxsat(next.vxsat),
+        0x00A => Change::Vxrm(next.vxrm),
+        0x00F => Change::Vcsr(next.vxrm, next.vxsat),
+        _ => Change::Nothing,
+    }
+}
+
+// The plan of a write, by the write of a record by value.
+fn plan_of(control: Control, csr: u64, value: u64) -> Plan
+    ensures { λ r. ⌜ (r .answer ≡ writtenOf base control csr value .answer) × (after (r .change) control ≡ writtenOf base control csr value .control) ⌝ }
+{
+    let written = csr::write(control, csr, value);
+    let answer = written.answer;
+    let next = written.control;
+    let change = match answer {
+        Answer::Finished => change_of(csr, next),
+        _ => Change::Nothing,
+    };
+    Plan { answer, change }
+}
+
+// The write: the record is lent, and one field of it is stored to (0x00F: two).
+pub fn write(control: &mut Control, csr: u64, value: u64) -> Answer
+    ensures { λ r. ⌜ (r ≡ writtenOf base (now (control .entry)) csr value .answer) × (now (control .exit) ≡ writtenOf base (now (control .entry)) csr value .control) ⌝ }
+{
+    let plan = plan_of(*control, csr, value);
+    match plan.change {
+        Change::Nothing => {}
+        Change::Vstart(x) => control.vstart = x,
+        Change::Vxsat(x) => control.vxsat = x,
+        Change::Vxrm(x) => control.vxrm = x,
+        Change::Vcsr(x, y) => {
+            control.vxrm = x;
+            control.vxsat = y;
+        }
+    }
+    plan.answer
+}
+
+// The same for a caller that has the record by value: it is lent to `write` and handed back.
+pub fn written(control: Control, csr: u64, value: u64) -> CsrWrite
+    ensures { λ r. ⌜ r ≡ writtenOf base control csr value ⌝ }
+{
+    let mut record = control;
+    let answer = write(&mut record, csr, value);
+    CsrWrite {
+        answer,
+        control: record,
+    }
+}

@@ -1,0 +1,14 @@
+use borrow.Author.Needs.{needs}
+use Rattle.text.proofs.TextLaws.{digit-low, digit-high}
+use Rattle.text.proofs.hex_digit.Statement.{statement}
+use Rattle.text.proofs.hex_digit.Tie as tie
+
+pub hex-digit-spec : {M : Type 1} → statement M
+hex-digit-spec =
+    tie.close
+    (tie.spec
+    (λ c. search needs)
+    (λ c. search needs)
+    (λ c. search needs)
+    (λ c. search digit-low)
+    (λ c. search digit-high))

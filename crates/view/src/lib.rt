@@ -1,0 +1,82 @@
+// The register view: the bytes of a group of registers, as a part of the lent file.
+ghost use mathlib.Core.Path.{_≡_};
+ghost use lib.ListN.{length};
+ghost use Rattle.answer.specs.Answer.{numberOf};
+ghost use Rattle.control.specs.Board.{Valid, base};
+ghost use Rattle.view.specs.View.{isGroupOf, refused, placeOf, partOf};
+use answer::Answer;
+use control::Board;
+
+// Where a group lies in the file, in bytes: both numbers are 0 beside a refusal.
+pub struct ViewPlace {
+    pub answer: Answer,
+    pub start: usize,
+    pub length: usize,
+}
+
+// Whether there is such a group.
+fn is_group(first: usize, count: usize) -> bool
+    ensures { λ r. ⌜ r ≡ isGroupOf first count ⌝ }
+{
+    if (count == 1) | (count == 2) | (count == 4) | (count == 8) {
+        return (first <= 31) & (first % count == 0);
+    }
+    false
+}
+
+fn refuse(answer: Answer) -> ViewPlace
+    ensures { λ r. ⌜ r ≡ refused answer ⌝ }
+{
+    ViewPlace {
+        answer,
+        start: 0,
+        length: 0,
+    }
+}
+
+// The place of a group on a board, in a file of `size` bytes.
+pub fn place_on(board: Board, size: usize, first: usize, count: usize) -> ViewPlace
+    requires { ⌜ Valid board ⌝ }
+    ensures { λ r. ⌜ r ≡ placeOf board size first count ⌝ }
+{
+    let whole = size as u64 == 32 * board.vlenb;
+    let group = is_group(first, count);
+    if !whole {
+        return refuse(Answer::BadRegisters);
+    }
+    if !group {
+        return refuse(Answer::NoGroup);
+    }
+    let vlenb = board.vlenb as usize;
+    ViewPlace {
+        answer: Answer::Finished,
+        start: vlenb * first,
+        length: vlenb * count,
+    }
+}
+
+pub fn place(size: usize, first: usize, count: usize) -> ViewPlace
+    ensures { λ r. ⌜ r ≡ placeOf base size first count ⌝ }
+{
+    place_on(Board::base(), size, first, count)
+}
+
+// The bytes of the group, or an empty part; the answer's number beside it.
+pub fn view_with<'a>(registers: &'a [u8], first: usize, count: usize, answer: &mut u64) -> &'a [u8]
+    ensures { λ r. ⌜ (now r ≡ partOf base (now (registers .entry)) first count) × (now (answer .exit) ≡ numberOf (placeOf base (length (now (registers .entry))) first count .answer)) ⌝ }
+{
+    let found = place(registers.len(), first, count);
+    let found_answer = found.answer;
+    *answer = answer::number(found_answer);
+    let start = found.start;
+    let end = start + found.length;
+    &registers[start..end]
+}
+
+// The same without the answer.
+pub fn view(registers: &[u8], first: usize, count: usize) -> &[u8]
+    ensures { λ r. ⌜ now r ≡ partOf base (now (registers .entry)) first count ⌝ }
+{
+    let mut answer = 0u64;
+    view_with(registers, first, count, &mut answer)
+}

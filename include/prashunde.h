@@ -1,0 +1,86 @@
+/*
+ * Prashunde: a RISC-V vector machine for the classroom (RV64, VLEN 128, ELEN 64; integer and fixed-point instructions).
+ *
+ * `rt staticlib capi` writes the library, target/staticlib/libcapi.a, for x86-64 Linux. It needs no other library, has no state of its own,
+ * allocates nothing, and each call returns. Calls on different parts may run at the same time on different threads.
+ *
+ * THE PARTS that a caller lends:
+ *   registers   512 bytes: vector register vN begins at byte 16 * N, lowest byte first
+ *   scalars     32 numbers: x0 to x31. x0 reads 0, and its slot is never written
+ *   memory      0 to 65536 bytes, from address 0
+ *   rights      256 bytes, one for each page of 256 bytes: 0 closed, 1 read, 2 read and write
+ *   control     5 numbers: vtype, vl, vstart, vxrm, vxsat
+ *
+ * WHAT THE CALLER OWES. Every pointer is valid for its length, aligned for its type, and not NULL (not even beside a length of 0). Parts that
+ * are written overlap no other part of the same call. All else is tested: a wrong length or a wrong value is answered and changes nothing.
+ */
+#ifndef PRASHUNDE_H
+#define PRASHUNDE_H
+
+#include <stddef.h>
+#include <stdint.h>
+
+#ifdef __cplusplus
+extern "C" {
+#endif
+
+/* The answers. 4 to 7 are the causes of the privileged manual. */
+enum {
+    PRASHUNDE_FINISHED = 0,         /* no element remains; vstart is 0 */
+    PRASHUNDE_PAUSED = 1,           /* the allowance is used up; vstart is the next element */
+    PRASHUNDE_ILLEGAL = 2,          /* a reserved, left out or unsupported word, or no such CSR; nothing is changed */
+    PRASHUNDE_LOAD_MISALIGNED = 4,  /* 4 to 7 and 37: the elements before the faulting one are done, vstart is that element */
+    PRASHUNDE_LOAD_ACCESS = 5,      /* past memory, or the page may not be read */
+    PRASHUNDE_STORE_MISALIGNED = 6,
+    PRASHUNDE_STORE_ACCESS = 7,     /* past memory, or the page may not be written */
+    PRASHUNDE_BAD_REGISTERS = 32,   /* 32 to 36, in this order: nothing is changed. registers_len is not 512 */
+    PRASHUNDE_BAD_SCALARS = 33,     /* scalars_len is not 32 */
+    PRASHUNDE_BAD_MEMORY = 34,      /* memory_len is over 65536 */
+    PRASHUNDE_BAD_RIGHTS = 35,      /* rights_len is not 256, or a right is above 2 */
+    PRASHUNDE_BAD_CONTROL = 36,     /* control fields that cannot be */
+    PRASHUNDE_TWO_PAGES = 37,       /* an aligned element lies on two pages */
+    PRASHUNDE_NO_GROUP = 38         /* no such register group (prashunde_view alone) */
+};
+
+/*
+ * One turn of the instruction `word`, of at most `allowance` elements from vstart up; UINT32_MAX runs it uncut. To go on after a pause or a
+ * fault, call it again with the same word. Lengths count elements: bytes of registers, memory and rights, numbers of scalars.
+ *   passed    gets the number of elements passed, masked-off ones included
+ *   address   gets the address of the first byte of the faulting element (answers 4 to 7 and 37), otherwise 0
+ * Returns the answer. On 2 and 32 to 36 registers, scalars, memory and control are as before, and passed and address get 0.
+ */
+uint64_t prashunde_turn(uint32_t word, uint32_t allowance,
+                        uint8_t *registers, size_t registers_len,
+                        uint64_t *scalars, size_t scalars_len,
+                        uint8_t *memory, size_t memory_len,
+                        const uint8_t *rights, size_t rights_len,
+                        uint64_t control[5], uint64_t *passed, uint64_t *address);
+
+/*
+ * Reads the CSR with the number `csr`: 0x008 vstart, 0x009 vxsat, 0x00A vxrm, 0x00F vcsr, 0xC20 vl, 0xC21 vtype, 0xC22 vlenb.
+ *   value   gets what is read, and 0 beside a refusal
+ * Returns 0; 36 for a control record that cannot be; then 2 for any other number.
+ */
+uint64_t prashunde_csr_read(uint64_t csr, const uint64_t control[5], uint64_t *value);
+
+/*
+ * Writes the low bits of `value` to a CSR in `control`: 7 bits to 0x008 vstart, 1 to 0x009 vxsat, 2 to 0x00A vxrm, 3 to 0x00F vcsr (vxrm and
+ * vxsat). Returns 0; 36 for a control record that cannot be; then 2 for any other number. A refused write leaves control as before.
+ */
+uint64_t prashunde_csr_write(uint64_t csr, uint64_t value, uint64_t control[5]);
+
+/*
+ * Where the group of `count` registers (1, 2, 4 or 8) from v`first` on lies; `first` is a multiple of `count`, and at most 31.
+ *   start, length   the group is registers[start] to registers[start + length - 1]; both get 0 beside a refusal
+ * Returns 0; 32 where registers_len is not 512; then 38 where there is no such group.
+ */
+uint64_t prashunde_view(const uint8_t *registers, size_t registers_len, size_t first, size_t count, size_t *start, size_t *length);
+
+/* Sets control to its state at reset: vtype is 2^63 (vill), all others 0. */
+void prashunde_reset(uint64_t control[5]);
+
+#ifdef __cplusplus
+}
+#endif
+
+#endif
