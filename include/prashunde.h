@@ -79,6 +79,18 @@ uint64_t prashunde_view(const uint8_t *registers, size_t registers_len, size_t f
 /* Sets control to its state at reset: vtype is 2^63 (vill), all others 0. */
 void prashunde_reset(uint64_t control[5]);
 
+/* The greatest length of what a sheet prints: a buffer of this length is long enough for every sheet. */
+#define PRASHUNDE_SHEET_MAX 1060000
+
+/*
+ * Runs a sheet on a machine of its own, as the program sheet_main does. Any bytes will do: a bad sheet prints sheet=bad and its first bad
+ * line. Sheet and buffer do not overlap.
+ *   out   gets the text, with no NUL after it, where out_len is at least its length. A shorter buffer is left as it was, and so are the
+ *         bytes behind the text
+ * Returns the length of the text, also where it does not fit. To ask for the length alone, give an out_len of 0 and a pointer that is not NULL.
+ */
+uint64_t prashunde_sheet(const uint8_t *sheet, size_t sheet_len, uint8_t *out, size_t out_len);
+
 #ifdef __cplusplus
 }
 #endif

@@ -1,7 +1,8 @@
-/* A load in three turns: a closed page stops it, then an allowance of 3 pauses it. Then the other calls. bindings/rust/examples/turns.rs prints the same. */
+/* A load in three turns: a closed page stops it, then an allowance of 3 pauses it. Then the other calls, and a sheet. bindings/rust/examples/turns.rs prints the same. */
 #include "prashunde.h"
 #include <inttypes.h>
 #include <stdio.h>
+#include <string.h>
 
 static uint8_t registers[512], memory[4096], rights[256];
 static uint64_t scalars[32], control[5];
@@ -33,6 +34,20 @@ static void csr(uint64_t number, uint64_t written)
     printf("csr %" PRIx64 ": write %" PRIu64 ", read %" PRIu64 ", value %" PRIu64 "\n", number, answer, after, value);
 }
 
+/* The length of what a sheet prints, from an empty buffer and from one that is a byte too short and stays as it was; then the text. */
+static void sheet(const char *text)
+{
+    static uint8_t out[PRASHUNDE_SHEET_MAX];
+    const uint8_t *lines = (const uint8_t *)text;
+    size_t length = strlen(text);
+    out[0] = 0;
+    uint64_t needed = prashunde_sheet(lines, length, out, 0);
+    uint64_t again = prashunde_sheet(lines, length, out, needed - 1);
+    printf("sheet: length %" PRIu64 ", %" PRIu64 ", first byte %u\n", needed, again, out[0]);
+    prashunde_sheet(lines, length, out, sizeof out);
+    fwrite(out, 1, needed, stdout);
+}
+
 int main(void)
 {
     for (size_t a = 0; a < sizeof memory; a++)
@@ -54,5 +69,8 @@ int main(void)
     csr(0x001, 1);
     control[1] = 33;
     turn("vl above VLMAX", 0x02058407, UINT32_MAX);
+    sheet("rights=w---------------\nx10=0000000000000003\nx11=00000000000000f8\nx12=0000000000000000\nallow=1\n"
+          "word=01057657\nword=0205e407\nend=1\n");
+    sheet("rights=\n");
     return 0;
 }

@@ -1,5 +1,5 @@
-//! A load in three turns: a closed page stops it, then an allowance of 3 pauses it. Then the other calls. bindings/c/turns.c prints the same.
-use prashunde::{csr_read, csr_write, turn, view, Answer, Control};
+//! A load in three turns: a closed page stops it, then an allowance of 3 pauses it. Then the other calls, and a sheet. bindings/c/turns.c prints the same.
+use prashunde::{csr_read, csr_write, sheet, sheet_into, turn, view, Answer, Control};
 
 struct Machine {
     registers: [u8; 512],
@@ -52,6 +52,15 @@ impl Machine {
     }
 }
 
+/// The length of what a sheet prints, from an empty buffer and from one that is a byte too short and stays as it was; then the text.
+fn print_sheet(lines: &str) {
+    let needed = sheet_into(lines.as_bytes(), &mut []);
+    let mut short = vec![0; needed - 1];
+    let again = sheet_into(lines.as_bytes(), &mut short);
+    println!("sheet: length {needed}, {again}, first byte {}", short[0]);
+    print!("{}", String::from_utf8_lossy(&sheet(lines.as_bytes())));
+}
+
 fn main() {
     let mut m = Machine {
         registers: [0; 512],
@@ -76,4 +85,9 @@ fn main() {
     m.csr(0x001, 1);
     m.control.vl = 33;
     m.turn("vl above VLMAX", 0x02058407, u32::MAX);
+    print_sheet(concat!(
+        "rights=w---------------\nx10=0000000000000003\nx11=00000000000000f8\nx12=0000000000000000\nallow=1\n",
+        "word=01057657\nword=0205e407\nend=1\n"
+    ));
+    print_sheet("rights=\n");
 }

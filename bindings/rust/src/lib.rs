@@ -29,6 +29,7 @@ mod ffi {
             length: *mut usize,
         ) -> u64;
         pub fn prashunde_reset(control: *mut u64);
+        pub fn prashunde_sheet(sheet: *const u8, sheet_len: usize, out: *mut u8, out_len: usize) -> u64;
     }
 }
 
@@ -181,4 +182,19 @@ pub fn view(registers: &[u8], first: usize, count: usize) -> Result<&[u8], Answe
     let (mut start, mut length) = (0, 0);
     let number = unsafe { ffi::prashunde_view(registers.as_ptr(), registers.len(), first, count, &mut start, &mut length) };
     Answer::done(number).map(|()| &registers[start..start + length])
+}
+
+/// The greatest length of what a sheet prints.
+pub const SHEET_MAX: usize = 1_060_000;
+
+/// Runs a sheet and returns the length of what it prints. The text is at the front of `out` if it fits; otherwise `out` is left as it was.
+pub fn sheet_into(sheet: &[u8], out: &mut [u8]) -> usize {
+    unsafe { ffi::prashunde_sheet(sheet.as_ptr(), sheet.len(), out.as_mut_ptr(), out.len()) as usize }
+}
+
+/// What a sheet prints.
+pub fn sheet(sheet: &[u8]) -> Vec<u8> {
+    let mut out = vec![0; sheet_into(sheet, &mut [])];
+    sheet_into(sheet, &mut out);
+    out
 }

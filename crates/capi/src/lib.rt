@@ -1,5 +1,6 @@
 // The calls with the C ABI. A slice crosses as a pointer and a length, the control record as an array of five numbers.
 ghost use mathlib.Core.Path.{_≡_};
+ghost use Prim.Native.Nat.{_≤_};
 ghost use lib.ListN.{length};
 ghost use Rattle.answer.specs.Answer.{numberOf};
 ghost use Rattle.control.specs.Board.{base};
@@ -8,6 +9,7 @@ ghost use Rattle.csr.specs.Csr.{readOf, writtenOf};
 ghost use Rattle.view.specs.View.{placeOf};
 ghost use Rattle.machine.specs.Machine.{turnOf};
 ghost use Rattle.turn.specs.Ran.{given};
+ghost use Rattle.sheet.specs.Run.{printed, buffered};
 ghost use Rattle.capi.specs.Crossing.{fieldsOf, recordOf, Shows};
 use control::Control;
 
@@ -116,4 +118,14 @@ pub extern "C" fn prashunde_reset(control: &mut [u64; 5])
     ensures { λ _. ⌜ now (control .exit) ≡ fieldsOf reset ⌝ }
 {
     *control = fields_of(Control::reset());
+}
+
+// The length of what a sheet prints, and the text in a buffer that is as long; a shorter one is left as it was.
+#[no_mangle]
+pub extern "C" fn prashunde_sheet(sheet: &[u8], out: &mut [u8]) -> u64
+    ensures { λ r. ⌜ r ≡ length (printed (now (sheet .entry))) ⌝ }
+    ensures { λ _. ⌜ now (out .exit) ≡ buffered (printed (now (sheet .entry))) (now (out .entry)) ⌝ }
+    ensures { λ r. ⌜ r ≤ 1060000 ⌝ }
+{
+    sheet::run(sheet, out) as u64
 }

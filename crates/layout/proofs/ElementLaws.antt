@@ -29,6 +29,19 @@ bytes-room {eew = eew} {i = i} h f =
     let p = ap (λ (k : ℕ). i * k) e in
     omega arith
 
+-- where an element of any width begins, and one of a byte
+pub begins : {size vlenb reg eew i : ℕ} → Inside size vlenb reg eew i → vlenb * reg + i * (eew / 8) ≤ size
+begins {size} {vlenb} {reg} {eew} {i} h =
+    shape (λ e. 8 * (vlenb * reg) + i * e + e ≤ 8 * size → vlenb * reg + i * (e / 8) ≤ size)
+    (λ u. omega (arith, u)) (λ n s u. let q : 8 * n / 8 ≡ n = omega arith in rw q (omega (arith, u)))
+    eew (h .width) (h .within)
+
+pub one-byte : (eew : ℕ) → eew / 8 ≡ 1 → eew ≡ 1 → ⊥
+one-byte eew e f = omega (arith, e, f)
+
+pub byte-room : {size vlenb reg eew i : ℕ} → Inside size vlenb reg eew i → eew / 8 ≡ 1 → vlenb * reg + i * (eew / 8) + 1 ≤ size
+byte-room {eew = eew} h e = omega (arith, e, bytes-room h (one-byte eew e))
+
 pub as-mask : {A : Type 0} (eew : ℕ) (r x y : A) → eew ≡ 1 → r ≡ x → r ≡ cond (eqb eew 1) x y
 as-mask eew r x y e p = rw (eq-eqb eew 1 e) p
 

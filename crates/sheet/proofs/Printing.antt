@@ -3,7 +3,7 @@ use Prim.Native.Nat.{ℕ, zero, suc, _+_, _*_, _%_, _^_, _≤_, _<_}
 use mathlib.Core.Path.{_≡_, refl, sym, ap, subst, _∙_}
 use mathlib.Core.List.{List, [], _∷_, _++_, append-nil}
 use mathlib.Core.Bool.{true, false, _&&_}
-use lib.ListN.{length, getD, set, drop, replicate, length-append, length-drop, drop-of-length-le}
+use lib.ListN.{length, set, drop, length-append, length-drop, drop-of-length-le, replicate, length-replicate}
 use lib.Dec.{eqb}
 use borrow.Author.Tests.{eq-eqb, ne-eqb, le-leb, lt-leb}
 use native.Mathlib.Numerals.{add-one}
@@ -174,3 +174,7 @@ pub buffer-short : {none : List ℕ} {a : ℕ} (text o : List ℕ) → Wrote [] 
 buffer-short text o n h =
     let e = still-none text n in
     rw (e, lt-leb (length text) (length o) (omega (arith, n .ends, rw e at h)))
+
+-- zeros are as many as are asked for: at any number, so that nothing counts to a given one
+pub zeros : (n : ℕ) → n ≡ length {A = ℕ} (replicate n 0)
+zeros n = sym (length-replicate n 0)

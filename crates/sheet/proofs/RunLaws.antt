@@ -1,14 +1,12 @@
 -- The run of a sheet, turn by turn and word by word: what the loops keep, and how each way out meets its contract.
 use Prim.Native.Nat.{ℕ, zero, suc, _+_, _-_, _*_, _≤_, _<_}
 use mathlib.Core.Path.{_≡_, refl, sym, ap, subst, _∙_}
-use mathlib.Core.Bool.{Bool, true, false, cond}
+use mathlib.Core.Bool.{false}
 use mathlib.Core.List.{List, [], _∷_, _++_}
 use lib.ListN.{length}
-use lib.Dec.{eqb}
 use native.Mathlib.Nat.{add-zero}
 use native.Mathlib.Omega.{arith}
 use borrow.Author.Tests.{eq-eqb, ne-eqb}
-use Rattle.answer.specs.declared.Answer.{Answer}
 use Rattle.answer.specs.declared.Answer.the-variants.{Finished, Paused}
 use Rattle.answer.specs.Answer.{numberOf}
 use Rattle.control.specs.declared.Control.{Control}
@@ -22,7 +20,7 @@ use Rattle.text.proofs.TextLaws.{both, nothing}
 use Rattle.hexadecimal.specs.Hexadecimal.{numberAt}
 use Rattle.sheet_read.specs.Sheet.{wordsAt}
 use Rattle.sheet.specs.declared.Ran.{Ran}
-use Rattle.sheet.specs.Run.{Progress, from, joined, report, turned, isPaused, turnsOf, wordOf, isFinished, runOf}
+use Rattle.sheet.specs.Run.{Progress, from, report, turned, isPaused, turnsOf, wordOf, isFinished, runOf}
 use Rattle.sheet.specs.Left.{Leaves, Ended}
 
 -- the lent parts are as long as at first

@@ -1,12 +1,11 @@
 -- What a sheet prints (document 01, 'The sheet runner').
 use Prim.Native.Nat.{ℕ, zero, suc, _+_, _*_, _%_}
-use mathlib.Core.Path.{_≡_}
-use mathlib.Core.Bool.{Bool, true, false, _&&_, cond}
+use mathlib.Core.Bool.{Bool, _&&_, cond}
 use mathlib.Core.List.{List, [], _∷_, _++_}
 use lib.ListN.{length, getD, drop, replicate}
 use lib.Dec.{leb, eqb}
 use Rattle.answer.specs.declared.Answer.{Answer}
-use Rattle.answer.specs.declared.Answer.the-variants.{Finished, Paused, Illegal, LoadMisaligned, LoadAccess, StoreMisaligned, StoreAccess, BadRegisters, BadScalars, BadMemory, BadRights, BadControl, TwoPages, NoGroup}
+use Rattle.answer.specs.declared.Answer.the-variants.{Finished, Paused}
 use Rattle.answer.specs.Answer.{numberOf}
 use Rattle.control.specs.declared.Control.{Control}
 use Rattle.control.specs.Board.{base}

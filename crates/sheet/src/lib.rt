@@ -64,7 +64,7 @@ fn take_turn(
     }
 }
 
-// One word: turns until it no longer pauses.
+// One word: turns until it no longer pauses, for which 129 are always enough.
 fn run_word(
     out: &mut [u8],
     at: usize,

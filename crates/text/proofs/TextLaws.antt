@@ -164,24 +164,18 @@ decimal-bound (suc n) x h =
     (λ g. rw (decimal-more n x g, decimal-more (suc n) x g, decimal-bound n (x / 10) (omega (arith, pow-suc 10 (suc n)))))
     (lt-or-ge x 10)
 
--- no more digits than the definition takes, and no more than x has
-pub decimal-digits : (k n x : ℕ) → (k ≤ n) ⊎ (x < 10 ^ suc n) → length (decimalTo k x) ≤ suc n
+-- no more digits than the definition takes
+decimal-upto : (n x : ℕ) → length (decimalTo n x) ≤ suc n
 unfolding decimalTo
-decimal-digits zero n x h = omega arith
-decimal-digits (suc k) zero x (inl h) = omega arith
-decimal-digits (suc k) zero x (inr h) = rw (decimal-few (suc k) x h) (omega arith)
-decimal-digits (suc k) (suc n) x h =
-    let u : (k ≤ n) ⊎ (x / 10 < 10 ^ suc n) = ⊎-elim (λ v. inl (omega arith)) (λ v. inr (omega (arith, pow-suc 10 (suc n)))) h in
+decimal-upto zero x = omega arith
+decimal-upto (suc n) x =
     ⊎-elim
-    (λ l. rw (decimal-few (suc k) x l) (omega arith))
-    (λ g. rw (decimal-more k x g, length-append (decimalTo k (x / 10)) ((48 + x % 10) ∷ [])) (omega (arith, decimal-digits k n (x / 10) u)))
+    (λ l. rw (decimal-few (suc n) x l) (omega arith))
+    (λ g. rw (decimal-more n x g, length-append (decimalTo n (x / 10)) ((48 + x % 10) ∷ [])) (omega (arith, decimal-upto n (x / 10))))
     (lt-or-ge x 10)
 
 pub decimal-length : (x : ℕ) → length (decimal x) ≤ 20
-decimal-length x = decimal-digits 19 19 x (inl (omega arith))
-
-pub decimal-small : (x : ℕ) → x < 1000 → length (decimal x) ≤ 3
-decimal-small x h = decimal-digits 19 2 x (inr h)
+decimal-length x = decimal-upto 19 x
 
 pub decimal-next : (x : ℕ) → x < 2 ^ 64 → 10 ≤ x → decimal x ≡ decimal (x / 10) ++ ((48 + x % 10) ∷ [])
 decimal-next x f g = rw (decimal-more 18 x g, decimal-bound 18 (x / 10) (omega arith))
@@ -199,9 +193,6 @@ pub decimal-room : {o o1 : List ℕ} {a a1 n : ℕ} (x : ℕ) → a ≤ 2 ^ 31 �
 decimal-room x h w e = omega (arith, decimal-length x, w .ends)
 
 -- ---- lines
-
-pub line-length : (k v : List ℕ) → length (line k v) ≡ length k + length v + 1
-line-length k v = rw (length-append k (v ++ (10 ∷ [])), length-append v (10 ∷ [])) (omega arith)
 
 pub line-wrote : {o k v o1 o2 o3 : List ℕ} {a a1 a2 a3 : ℕ} → Wrote o a k o1 a1 → Wrote o1 a1 v o2 a2
     → Wrote o2 a2 (10 ∷ []) o3 a3 → Wrote o a (line k v) o3 a3

@@ -1,5 +1,5 @@
 -- Text as a list of bytes, and its place in a lent buffer.
-use Prim.Native.Nat.{ℕ, zero, suc, _+_, _/_, _%_, _^_, _≤_}
+use Prim.Native.Nat.{ℕ, zero, suc, _+_, _/_, _%_, _^_}
 use Prim.Native.Char.{code}
 use Prim.Native.String.{String, [] as none, _∷_ as _and_}
 use mathlib.Core.Path.{_≡_}
