@@ -1,26 +1,9 @@
 // Nanoseconds of an uncut turn through the C interface, word by word, beside a plain loop for the first word.
 mod words;
+use prashunde::ffi::prashunde_turn;
 use std::hint::black_box;
 use std::time::Instant;
 use words::{Row, ROWS};
-
-extern "C" {
-    fn prashunde_turn(
-        word: u32,
-        allowance: u32,
-        registers: *mut u8,
-        registers_len: usize,
-        scalars: *mut u64,
-        scalars_len: usize,
-        memory: *mut u8,
-        memory_len: usize,
-        rights: *const u8,
-        rights_len: usize,
-        control: *mut [u64; 5],
-        passed: *mut u64,
-        address: *mut u64,
-    ) -> u64;
-}
 
 #[derive(Clone, PartialEq)]
 struct State {
@@ -63,7 +46,7 @@ fn turn(word: u32, s: &mut State, passed: &mut u64, address: &mut u64) -> u64 {
             s.memory.len(),
             s.rights.as_ptr(),
             s.rights.len(),
-            &mut s.control,
+            s.control.as_mut_ptr(),
             passed,
             address,
         )

@@ -1,7 +1,8 @@
 //! A RISC-V vector machine for the classroom. The functions wrap the calls of `include/prashunde.h`, which says what each does. They are safe
 //! on every input: the calls test all that they are given, and slices and references are as the calls need them.
 
-mod ffi {
+/// The calls themselves, for a caller that wants no wrapper; `include/prashunde.h` says what they need.
+pub mod ffi {
     extern "C" {
         pub fn prashunde_turn(
             word: u32,

@@ -81,7 +81,7 @@ turnsOf (suc n) word allow p = cond (isPaused (p .answer)) (turnsOf n word allow
 abbrev pub begun : State → Progress
 begun s = record { text = []; answer = Paused; state = s }
 
--- A pause leaves vstart higher, and vstart above 127 is refused: no word pauses 129 times
+-- A pause leaves vstart higher, and vstart above 127 is refused: no word pauses 129 times (law `ends`, proofs/Ends)
 unfoldable pub wordOf : ℕ → ℕ → State → Progress
 wordOf word allow s = turnsOf 129 word allow (begun s)
 

@@ -52,7 +52,7 @@ upTo128 d e f g =
     (cond (eqb e 10) (d - 48) (cond (isDecimal e) (cond (eqb f 10) (tens d e) (threeDigits d e f g)) 0))
     0
 
--- ---- the lines in their order, each of the first four at its own index
+-- ---- the lines in their order; each of the first five begins at an index of its own
 
 unfoldable pub allowOf : List ℕ → ℕ
 allowOf s = cond (begins s 87 (ascii "allow=")) (upTo128 (getD s 93 0) (getD s 94 0) (getD s 95 0) (getD s 96 0)) 0

@@ -1,7 +1,0 @@
-// Links target/staticlib/libcapi.a, which `rt staticlib capi` writes.
-fn main() {
-    let root = std::env::var("CARGO_MANIFEST_DIR").unwrap();
-    println!("cargo:rustc-link-search=native={root}/../target/staticlib");
-    println!("cargo:rustc-link-lib=static=capi");
-    println!("cargo:rerun-if-changed=../target/staticlib/libcapi.a");
-}
