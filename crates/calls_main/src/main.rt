@@ -6,14 +6,6 @@ ghost use Prim.Native.Nat.{_≤_, _<_};
 use control::Control;
 use csr::CsrWrite;
 
-fn space() {
-    io::write_all(1, b" ");
-}
-
-fn end_line() {
-    io::write_all(1, b"\n");
-}
-
 // ---- CSR numbers
 
 fn control_of(line: &[u8]) -> Control {
@@ -26,34 +18,22 @@ fn control_of(line: &[u8]) -> Control {
     }
 }
 
-fn print_control(control: Control) {
-    io::print_hex(1, control.vtype, 1);
-    space();
-    io::print_decimal(1, control.vl);
-    space();
-    io::print_decimal(1, control.vstart);
-    space();
-    io::print_decimal(1, control.vxrm);
-    space();
-    io::print_decimal(1, control.vxsat);
-}
-
 fn print_written(written: CsrWrite) {
     let answer = written.answer;
     let control = written.control;
     io::print_decimal(1, answer::number(answer));
-    space();
-    print_control(control);
-    end_line();
+    case_lines::space();
+    case_lines::print_control(control);
+    case_lines::end_line();
 }
 
 fn read(line: &[u8]) {
     let found = csr::read(control_of(line), hexadecimal::number(line, 1, 16));
     let answer = found.answer;
     io::print_decimal(1, answer::number(answer));
-    space();
+    case_lines::space();
     io::print_hex(1, found.value, 1);
-    end_line();
+    case_lines::end_line();
 }
 
 fn write(line: &[u8]) {
@@ -97,13 +77,13 @@ fn checksum(part: &[u8]) -> u64 {
 
 fn print_part(answer: u64, start: u64, length: u64, part: &[u8]) {
     io::print_decimal(1, answer);
-    space();
+    case_lines::space();
     io::print_decimal(1, start);
-    space();
+    case_lines::space();
     io::print_decimal(1, length);
-    space();
+    case_lines::space();
     io::print_decimal(1, checksum(part));
-    end_line();
+    case_lines::end_line();
 }
 
 fn view_with(file: &[u8], first: usize, count: usize) {

@@ -144,32 +144,16 @@ fn control_of(head: &[u8]) -> Control {
     }
 }
 
-fn space() {
-    io::write_all(1, b" ");
-}
-
-fn print_control(control: Control) {
-    io::print_hex(1, control.vtype, 1);
-    space();
-    io::print_decimal(1, control.vl);
-    space();
-    io::print_decimal(1, control.vstart);
-    space();
-    io::print_decimal(1, control.vxrm);
-    space();
-    io::print_decimal(1, control.vxsat);
-}
-
 fn print_turned(turned: Turned) {
     let answer = turned.answer;
     let control = turned.control;
     io::print_decimal(1, answer::number(answer));
-    space();
+    case_lines::space();
     io::print_decimal(1, turned.passed);
-    space();
+    case_lines::space();
     io::print_hex(1, turned.address, 1);
-    space();
-    print_control(control);
+    case_lines::space();
+    case_lines::print_control(control);
 }
 
 fn print_byte(label: &[u8], at: u64, byte: u8) {
@@ -221,7 +205,7 @@ fn print_changes(
     print_bytes(b" v", registers, registers_before);
     print_scalars(scalars, scalars_before);
     print_bytes(b" m", memory, memory_before);
-    io::write_all(1, b"\n");
+    case_lines::end_line();
 }
 
 fn take_turn(
