@@ -1,5 +1,5 @@
 -- Document 01, 'Register view': where a group of registers lies in the lent file, and its bytes.
-use Prim.Native.Nat.{ℕ, _*_, _%_}
+use Prim.Native.Nat.{ℕ, _+_, _*_, _%_}
 use mathlib.Core.Bool.{Bool, not, _&&_, _||_, cond}
 use mathlib.Core.List.{List}
 use lib.ListN.{length, take, drop}
@@ -30,3 +30,7 @@ bytesAt p registers = take (p .length) (drop (p .start) registers)
 
 abbrev pub partOf : Board → List ℕ → ℕ → ℕ → List ℕ
 partOf b registers first count = bytesAt (placeOf b (length registers) first count) registers
+
+-- and no copy of them: the part begins so many bytes after the file does. A reference points to a block, and to a byte in it
+abbrev pub pointAt : ℕ × ℕ → ℕ → ℕ × ℕ
+pointAt file start = (file .0, start + file .1)

@@ -1,9 +1,10 @@
 // The register view: the bytes of a group of registers, as a part of the lent file.
 ghost use mathlib.Core.Path.{_≡_};
 ghost use lib.ListN.{length};
+ghost use denote.Ref.{ptr};
 ghost use Rattle.answer.specs.Answer.{numberOf};
 ghost use Rattle.control.specs.Board.{Valid, base};
-ghost use Rattle.view.specs.View.{isGroupOf, refused, placeOf, partOf};
+ghost use Rattle.view.specs.View.{isGroupOf, refused, placeOf, partOf, pointAt};
 use answer::Answer;
 use control::Board;
 
@@ -63,7 +64,7 @@ pub fn place(size: usize, first: usize, count: usize) -> ViewPlace
 
 // The bytes of the group, or an empty part; the answer's number beside it.
 pub fn view_with<'a>(registers: &'a [u8], first: usize, count: usize, answer: &mut u64) -> &'a [u8]
-    ensures { λ r. ⌜ (now r ≡ partOf base (now (registers .entry)) first count) × (now (answer .exit) ≡ numberOf (placeOf base (length (now (registers .entry))) first count .answer)) ⌝ }
+    ensures { λ r. ⌜ (now r ≡ partOf base (now (registers .entry)) first count) × ((now (answer .exit) ≡ numberOf (placeOf base (length (now (registers .entry))) first count .answer)) × (ptr r ≡ pointAt (ptr (registers .entry)) (placeOf base (length (now (registers .entry))) first count .start))) ⌝ }
 {
     let found = place(registers.len(), first, count);
     let found_answer = found.answer;
@@ -75,7 +76,7 @@ pub fn view_with<'a>(registers: &'a [u8], first: usize, count: usize, answer: &m
 
 // The same without the answer.
 pub fn view(registers: &[u8], first: usize, count: usize) -> &[u8]
-    ensures { λ r. ⌜ now r ≡ partOf base (now (registers .entry)) first count ⌝ }
+    ensures { λ r. ⌜ (now r ≡ partOf base (now (registers .entry)) first count) × (ptr r ≡ pointAt (ptr (registers .entry)) (placeOf base (length (now (registers .entry))) first count .start)) ⌝ }
 {
     let mut answer = 0u64;
     view_with(registers, first, count, &mut answer)

@@ -8,7 +8,7 @@ use lib.ListN.{length, take, drop}
 use Rattle.answer.specs.Answer.{numberOf}
 use Rattle.control.specs.declared.Board.{Board}
 use Rattle.view.specs.declared.ViewPlace.{ViewPlace}
-use Rattle.view.specs.View.{placeOf, bytesAt, partOf}
+use Rattle.view.specs.View.{placeOf, bytesAt, partOf, pointAt}
 use Rattle.view.proofs.ViewLaws.{part-end}
 use Rattle.view.proofs.view_with.Statement.{statement}
 use Rattle.view.proofs.view_with.Tie as tie
@@ -21,6 +21,10 @@ answer-is : (b : Board) (size f n x : ℕ) (p : ViewPlace) → p ≡ placeOf b s
     → x ≡ numberOf (placeOf b size f n .answer)
 answer-is b size f n x p e h = h ∙ ap (λ (q : ViewPlace). numberOf (q .answer)) e
 
+points : (b : Board) (size f n : ℕ) (file : ℕ × ℕ) (p : ViewPlace) → p ≡ placeOf b size f n
+    → pointAt file (p .start) ≡ pointAt file (placeOf b size f n .start)
+points b size f n file p e = ap (λ (q : ViewPlace). pointAt file (q .start)) e
+
 pub view-with-spec : {M : Type 1} → statement M
 view-with-spec =
     tie.close
@@ -31,4 +35,4 @@ view-with-spec =
     (λ c. search needs)
     (λ c. search needs)
     (λ c. omega (arith, part-end _ _ _ _ _ (c .before .before .place .ensures)))
-    (λ c. (search bytes-are, search answer-is)))
+    (λ c. (search bytes-are, (search answer-is, points _ _ _ _ _ _ (c .before .before .before .place .ensures)))))
