@@ -58,23 +58,23 @@ uint64_t prashunde_turn(uint32_t word, uint32_t allowance,
 
 /*
  * Reads the CSR with the number `csr`: 0x008 vstart, 0x009 vxsat, 0x00A vxrm, 0x00F vcsr, 0xC20 vl, 0xC21 vtype, 0xC22 vlenb.
- *   value   gets what is read, and 0 beside a refusal
+ *   value   gets what is read, and 0 beside any other answer than 0
  * Returns 0; 36 for a control record that cannot be; then 2 for any other number.
  */
 uint64_t prashunde_csr_read(uint64_t csr, const uint64_t control[5], uint64_t *value);
 
 /*
  * Writes the low bits of `value` to a CSR in `control`: 7 bits to 0x008 vstart, 1 to 0x009 vxsat, 2 to 0x00A vxrm, 3 to 0x00F vcsr (vxrm and
- * vxsat). Returns 0; 36 for a control record that cannot be; then 2 for any other number. A refused write leaves control as before.
+ * vxsat). Returns 0; 36 for a control record that cannot be; then 2 for any other number. Control is as before beside both.
  */
 uint64_t prashunde_csr_write(uint64_t csr, uint64_t value, uint64_t control[5]);
 
 /*
  * Where the group of `count` registers (1, 2, 4 or 8) from v`first` on lies; `first` is a multiple of `count`, and at most 31.
- *   start, length   the group is registers[start] to registers[start + length - 1]; both get 0 beside a refusal
+ *   start, size   the group is registers[start] to registers[start + size - 1]; both get 0 beside any other answer than 0
  * Returns 0; 32 where registers_len is not 512; then 38 where there is no such group.
  */
-uint64_t prashunde_view(const uint8_t *registers, size_t registers_len, size_t first, size_t count, size_t *start, size_t *length);
+uint64_t prashunde_view(const uint8_t *registers, size_t registers_len, size_t first, size_t count, size_t *start, size_t *size);
 
 /* Sets control to its state at reset: vtype is 2^63 (vill), all others 0. */
 void prashunde_reset(uint64_t control[5]);

@@ -7,7 +7,7 @@ writes stdin (the cases) and stdout (what the program must print) from files wit
 
     read csr vtype vl vstart vxrm vxsat : answer value
     write csr value vtype vl vstart vxrm vxsat : answer vtype vl vstart vxrm vxsat
-    view file-length first count : answer first-byte length
+    view file-length first count : answer first-byte size
 
 csr, value and vtype are hex, the others decimal. The program prints what a write and a view give twice, each by two calls, and of a view a
 checksum of the bytes found, in a file whose byte k is `byte(k)`.
@@ -17,9 +17,9 @@ import sys
 def byte(k):
     return (k // 16 + k % 16 * 16) % 256
 
-def checksum(start, length):
+def checksum(start, size):
     total = 0
-    for k in range(start, start + length):
+    for k in range(start, start + size):
         total = total % 65521 * 31 + byte(k)
     return total
 
@@ -35,8 +35,8 @@ def case(line):
         return 'r', [csr, 0] + control, [gives]
     if kind == 'write':
         return 'w', numbers(words, (0, 1, 2)), [gives] * 2
-    start, length = (int(word) for word in gives.split()[1:])
-    return 'v', numbers(words, ()) + [0] * 4, ['%s %d' % (gives, checksum(start, length))] * 2
+    start, size = (int(word) for word in gives.split()[1:])
+    return 'v', numbers(words, ()) + [0] * 4, ['%s %d' % (gives, checksum(start, size))] * 2
 
 def main():
     cases = [case(line) for name in sys.argv[2:] for line in open(name) if line.strip() and line[0] != '#']

@@ -18,10 +18,10 @@ static void turn(const char *name, uint32_t word, uint32_t allowance)
 
 static void view(size_t first, size_t count)
 {
-    size_t start, length;
-    uint64_t answer = prashunde_view(registers, sizeof registers, first, count, &start, &length);
+    size_t start, size;
+    uint64_t answer = prashunde_view(registers, sizeof registers, first, count, &start, &size);
     printf("view v%zu, %zu: answer %" PRIu64 ", bytes", first, count, answer);
-    for (size_t i = 0; i < length; i++)
+    for (size_t i = 0; i < size; i++)
         printf(" %u", registers[start + i]);
     printf("\n");
 }

@@ -27,7 +27,7 @@ pub mod ffi {
             first: usize,
             count: usize,
             start: *mut usize,
-            length: *mut usize,
+            size: *mut usize,
         ) -> u64;
         pub fn prashunde_reset(control: *mut u64);
         pub fn prashunde_sheet(sheet: *const u8, sheet_len: usize, out: *mut u8, out_len: usize) -> u64;
@@ -80,7 +80,7 @@ impl Answer {
     fn done(number: u64) -> Result<(), Answer> {
         match Answer::of(number) {
             Answer::Finished => Ok(()),
-            refusal => Err(refusal),
+            other => Err(other),
         }
     }
 }
@@ -170,7 +170,7 @@ pub fn csr_read(csr: u64, control: &Control) -> Result<u64, Answer> {
     Answer::done(number).map(|()| value)
 }
 
-/// Writes a CSR of the record; a refused write changes nothing.
+/// Writes a CSR of the record; beside any other answer than `Finished` nothing is changed.
 pub fn csr_write(csr: u64, value: u64, control: &mut Control) -> Result<(), Answer> {
     let mut fields = control.fields();
     let number = unsafe { ffi::prashunde_csr_write(csr, value, fields.as_mut_ptr()) };
@@ -180,9 +180,9 @@ pub fn csr_write(csr: u64, value: u64, control: &mut Control) -> Result<(), Answ
 
 /// The bytes of the group of `count` registers from v`first` on.
 pub fn view(registers: &[u8], first: usize, count: usize) -> Result<&[u8], Answer> {
-    let (mut start, mut length) = (0, 0);
-    let number = unsafe { ffi::prashunde_view(registers.as_ptr(), registers.len(), first, count, &mut start, &mut length) };
-    Answer::done(number).map(|()| &registers[start..start + length])
+    let (mut start, mut size) = (0, 0);
+    let number = unsafe { ffi::prashunde_view(registers.as_ptr(), registers.len(), first, count, &mut start, &mut size) };
+    Answer::done(number).map(|()| &registers[start..start + size])
 }
 
 /// The greatest length of what a sheet prints.

@@ -6,8 +6,16 @@ use lib.ListN.{getD}
 use lib.Dec.{leb, eqb}
 use Rattle.answer.specs.declared.Answer.{Answer}
 use Rattle.answer.specs.declared.Answer.the-variants.{LoadMisaligned, LoadAccess, StoreMisaligned, StoreAccess, TwoPages}
-use Rattle.answer.specs.declared.Verdict.{Verdict}
-use Rattle.answer.specs.declared.Verdict.the-variants.{Accepted, Refused}
+use Rattle.access.specs.declared.FaultPlace.{FaultPlace}
+use Rattle.access.specs.declared.AccessCheck.{AccessCheck}
+use Rattle.access.specs.declared.AccessCheck.the-variants.{Granted, Faulted}
+
+-- "a fault address: the first byte of the faulting element, modulo 2^64, for 4 to 7 and 37, else 0"
+abbrev pub nowhere : FaultPlace
+nowhere = record { address = 0 }
+
+abbrev pub faultAt : Answer → ℕ → AccessCheck
+faultAt answer a = Faulted (record { answer = answer; place = record { address = a } })
 
 -- a page has 256 bytes
 abbrev pub pageOf : ℕ → ℕ
@@ -17,6 +25,7 @@ pageOf a = a / 256
 abbrev pub needed : Bool → ℕ
 needed store = cond store 2 1
 
+-- answers 4 and 6, 5 and 7
 abbrev pub misaligned : Bool → Answer
 misaligned store = cond store StoreMisaligned LoadMisaligned
 
@@ -24,9 +33,9 @@ abbrev pub denied : Bool → Answer
 denied store = cond store StoreAccess LoadAccess
 
 -- the element of n bytes at address a, by the pages' rights and the number of bytes of memory
-unfoldable pub accessOf : List ℕ → ℕ → Bool → ℕ → ℕ → Verdict
+unfoldable pub accessOf : List ℕ → ℕ → Bool → ℕ → ℕ → AccessCheck
 accessOf rights memory store a n =
-    cond (not (eqb (a % n) 0)) (Refused (misaligned store))
-    (cond (not (eqb (pageOf a) (pageOf (a + n - 1)))) (Refused TwoPages)
-    (cond (leb (a + n) memory && leb (needed store) (getD rights (pageOf a) 0)) Accepted
-    (Refused (denied store))))
+    cond (not (eqb (a % n) 0)) (faultAt (misaligned store) a)
+    (cond (not (eqb (pageOf a) (pageOf (a + n - 1)))) (faultAt TwoPages a)
+    (cond (leb (a + n) memory && leb (needed store) (getD rights (pageOf a) 0)) Granted
+    (faultAt (denied store) a)))

@@ -1,29 +1,61 @@
-// The access test of one element.
+// The access test of one element, and what a fault tells.
 ghost use mathlib.Core.Path.{_≡_};
 ghost use Prim.Native.Nat.{_≤_};
 ghost use lib.ListN.{length};
 ghost use lib.Dec.{T};
 ghost use Rattle.layout.specs.Layout.{byteSize};
-ghost use Rattle.access.specs.Access.{needed, misaligned, denied, accessOf};
+ghost use Rattle.access.specs.Access.{nowhere, faultAt, needed, misaligned, denied, accessOf};
 use answer::Answer;
-use answer::Verdict;
 
-fn misaligned_at(store: bool) -> Verdict
-    ensures { λ r. ⌜ r ≡ Verdict.Refused (misaligned store) ⌝ }
-{
-    if store {
-        return Verdict::Refused(Answer::StoreMisaligned);
-    }
-    Verdict::Refused(Answer::LoadMisaligned)
+// Where a fault lies: the address of the faulting element's first byte.
+pub struct FaultPlace {
+    pub address: u64,
 }
 
-fn denied_at(store: bool) -> Verdict
-    ensures { λ r. ⌜ r ≡ Verdict.Refused (denied store) ⌝ }
+impl FaultPlace {
+    // What stands beside an answer that is no fault.
+    pub fn nowhere() -> FaultPlace
+        ensures { λ r. ⌜ r ≡ nowhere ⌝ }
+    {
+        FaultPlace { address: 0 }
+    }
+}
+
+// A fault: its answer, and where it lies.
+pub struct Fault {
+    pub answer: Answer,
+    pub place: FaultPlace,
+}
+
+// What the access test comes to.
+pub enum AccessCheck {
+    Granted,
+    Faulted(Fault),
+}
+
+fn fault_at(answer: Answer, address: u64) -> AccessCheck
+    ensures { λ r. ⌜ r ≡ faultAt answer address ⌝ }
+{
+    let place = FaultPlace { address };
+    AccessCheck::Faulted(Fault { answer, place })
+}
+
+fn misaligned_answer(store: bool) -> Answer
+    ensures { λ r. ⌜ r ≡ misaligned store ⌝ }
 {
     if store {
-        return Verdict::Refused(Answer::StoreAccess);
+        return Answer::StoreMisaligned;
     }
-    Verdict::Refused(Answer::LoadAccess)
+    Answer::LoadMisaligned
+}
+
+fn denied_answer(store: bool) -> Answer
+    ensures { λ r. ⌜ r ≡ denied store ⌝ }
+{
+    if store {
+        return Answer::StoreAccess;
+    }
+    Answer::LoadAccess
 }
 
 fn right_needed(store: bool) -> u8
@@ -33,26 +65,26 @@ fn right_needed(store: bool) -> u8
 }
 
 // The element of n bytes at address a, in a memory of so many bytes.
-pub fn access(rights: &[u8], memory: usize, store: bool, a: u64, n: u64) -> Verdict
+pub fn access(rights: &[u8], memory: usize, store: bool, a: u64, n: u64) -> AccessCheck
     requires { ⌜ (length (now rights) ≡ 256) × ((memory ≤ 65536) × T (byteSize n)) ⌝ }
     ensures { λ r. ⌜ r ≡ accessOf (now (rights .entry)) memory store a n ⌝ }
 {
     if a % n != 0 {
-        return misaligned_at(store);
+        return fault_at(misaligned_answer(store), a);
     }
     // an aligned element ends below 2^64
     let last = a + (n - 1);
     if a / 256 != last / 256 {
-        return Verdict::Refused(Answer::TwoPages);
+        return fault_at(Answer::TwoPages, a);
     }
     let size = memory as u64;
     if size <= last {
-        return denied_at(store);
+        return fault_at(denied_answer(store), a);
     }
     // below the end of memory, so one of the 256 pages
     let page = (a / 256) as usize;
     if rights[page] < right_needed(store) {
-        return denied_at(store);
+        return fault_at(denied_answer(store), a);
     }
-    Verdict::Accepted
+    AccessCheck::Granted
 }

@@ -1,7 +1,9 @@
 -- The number of each answer: the table of document 01, 'One turn and its answer'. 4 to 7 are the causes of the privileged manual.
 use Prim.Native.Nat.{ℕ}
 use Rattle.answer.specs.declared.Answer.{Answer}
-use Rattle.answer.specs.declared.Answer.the-variants.{Finished, Paused, Illegal, LoadMisaligned, LoadAccess, StoreMisaligned, StoreAccess, BadRegisters, BadScalars, BadMemory, BadRights, BadControl, TwoPages, NoGroup}
+use Rattle.answer.specs.declared.Answer.the-variants.{Finished, Paused, Illegal, LoadMisaligned, LoadAccess, StoreMisaligned}
+use Rattle.answer.specs.declared.Answer.the-variants.{StoreAccess, BadRegisters, BadScalars, BadMemory, BadRights, BadControl}
+use Rattle.answer.specs.declared.Answer.the-variants.{TwoPages, NoGroup}
 
 abbrev pub numberOf : Answer → ℕ
 numberOf Finished = 0

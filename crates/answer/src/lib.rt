@@ -2,6 +2,7 @@
 ghost use mathlib.Core.Path.{_≡_};
 ghost use Rattle.answer.specs.Answer.{numberOf};
 
+// What a call comes to; `number` gives the paper's number of each.
 pub enum Answer {
     Finished,
     Paused,
@@ -19,7 +20,7 @@ pub enum Answer {
     NoGroup,
 }
 
-// What a test comes to: nothing against it, or the answer that refuses.
+// What refusals 32 to 36 come to: nothing against a state, or the answer that refuses it.
 pub enum Verdict {
     Accepted,
     Refused(Answer),

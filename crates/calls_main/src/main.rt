@@ -9,31 +9,33 @@ use csr::CsrWrite;
 // ---- CSR numbers
 
 fn control_of(line: &[u8]) -> Control {
-    Control {
-        vtype: hexadecimal::number(line, 33, 16),
-        vl: hexadecimal::number(line, 49, 16),
-        vstart: hexadecimal::number(line, 65, 16),
-        vxrm: hexadecimal::number(line, 81, 16),
-        vxsat: hexadecimal::number(line, 97, 16),
-    }
+    case_lines::control_at(line, 33)
+}
+
+// The control record on standard output.
+fn print_control(control: Control) {
+    let mut text = [0u8; 100];
+    let n = case_lines::control_text(&mut text, 0, control);
+    let k = io::count(n as isize, &text);
+    io::write_all(1, &text[..k]);
 }
 
 fn print_written(written: CsrWrite) {
     let answer = written.answer;
     let control = written.control;
     io::print_decimal(1, answer::number(answer));
-    case_lines::space();
-    case_lines::print_control(control);
-    case_lines::end_line();
+    io::write_all(1, b" ");
+    print_control(control);
+    io::write_all(1, b"\n");
 }
 
 fn read(line: &[u8]) {
     let found = csr::read(control_of(line), hexadecimal::number(line, 1, 16));
     let answer = found.answer;
     io::print_decimal(1, answer::number(answer));
-    case_lines::space();
+    io::write_all(1, b" ");
     io::print_hex(1, found.value, 1);
-    case_lines::end_line();
+    io::write_all(1, b"\n");
 }
 
 fn write(line: &[u8]) {
@@ -75,15 +77,15 @@ fn checksum(part: &[u8]) -> u64 {
     sum
 }
 
-fn print_part(answer: u64, start: u64, length: u64, part: &[u8]) {
+fn print_part(answer: u64, start: u64, size: u64, part: &[u8]) {
     io::print_decimal(1, answer);
-    case_lines::space();
+    io::write_all(1, b" ");
     io::print_decimal(1, start);
-    case_lines::space();
-    io::print_decimal(1, length);
-    case_lines::space();
+    io::write_all(1, b" ");
+    io::print_decimal(1, size);
+    io::write_all(1, b" ");
     io::print_decimal(1, checksum(part));
-    case_lines::end_line();
+    io::write_all(1, b"\n");
 }
 
 fn view_with(file: &[u8], first: usize, count: usize) {
@@ -99,7 +101,7 @@ fn view(file: &[u8], first: usize, count: usize) {
     print_part(
         answer::number(answer),
         place.start as u64,
-        place.length as u64,
+        place.size as u64,
         part,
     );
 }

@@ -5,21 +5,23 @@ use mathlib.Core.List.{List}
 use Rattle.answer.specs.Answer.{numberOf}
 use Rattle.control.specs.declared.Control.{Control}
 use Rattle.control.specs.Board.{base}
+use Rattle.control.specs.Control.{fieldsOf, recordOf}
 use Rattle.csr.specs.declared.CsrRead.{CsrRead}
 use Rattle.csr.specs.declared.CsrWrite.{CsrWrite}
 use Rattle.csr.specs.Csr.{readOf, writtenOf}
 use Rattle.view.specs.declared.ViewPlace.{ViewPlace}
 use Rattle.view.specs.View.{placeOf}
 use Rattle.machine.specs.Machine.{turnOf}
-use Rattle.turn.specs.declared.Turned.{Turned}
-use Rattle.turn.specs.Ran.{given, left}
-use Rattle.capi.specs.Crossing.{fieldsOf, recordOf, Shows}
+use Rattle.machine.specs.declared.Turned.{Turned}
+use Rattle.machine.specs.Call.{given, left}
+use Rattle.capi.specs.Crossing.{Shows}
 
 pub shown :
-    (word n : ℕ) (t : Turned) (r s m r′ s′ m′ p : List ℕ) (c : Control) (fields l : List ℕ) (a passed address : ℕ) → c ≡ recordOf fields →
-    left t r′ s′ m′ p ≡ turnOf base word n (given r s m p c) → a ≡ numberOf (t .answer) → passed ≡ t .passed → address ≡ t .address →
-    l ≡ fieldsOf (t .control) → Shows (turnOf base word n (given r s m p (recordOf fields))) a passed address r′ s′ m′ p l
-shown word n t r s m r′ s′ m′ p c fields l a passed address e h f g k u = rw (← e, ← h) (record {
+    (word n : ℕ) (t : Turned) (r s m r′ s′ m′ p : List ℕ) (c c₀ : Control) (l : List ℕ) (a passed address : ℕ) → c ≡ c₀ →
+    left t r′ s′ m′ p ≡ turnOf base word n (given r s m p c) → a ≡ numberOf (t .answer) → passed ≡ t .passed →
+    address ≡ t .place .address → l ≡ fieldsOf (t .control) →
+    Shows (turnOf base word n (given r s m p c₀)) a passed address r′ s′ m′ p l
+shown word n t r s m r′ s′ m′ p c c₀ l a passed address e h f g k u = rw (← e, ← h) (record {
   answer-is = f;
   passed-is = g;
   address-is = k;
@@ -31,14 +33,17 @@ shown word n t r s m r′ s′ m′ p c fields l a passed address e h f g k u = 
 })
 
 module _ (fields : List ℕ) (c : Control) (e : c ≡ recordOf fields) where
-  pub read-number : (w : CsrRead) (csr a : ℕ) → w ≡ readOf base c csr → a ≡ numberOf (w .answer) → a ≡ numberOf (readOf base (recordOf fields) csr .answer)
+  pub read-number :
+      (w : CsrRead) (csr a : ℕ) → w ≡ readOf base c csr → a ≡ numberOf (w .answer) →
+      a ≡ numberOf (readOf base (recordOf fields) csr .answer)
   read-number w csr a h f = rw (f, h, e)
 
   pub read-value : (w : CsrRead) (csr x : ℕ) → w ≡ readOf base c csr → x ≡ w .value → x ≡ readOf base (recordOf fields) csr .value
   read-value w csr x h f = rw (f, h, e)
 
   pub written-number :
-      (w : CsrWrite) (csr x a : ℕ) → w ≡ writtenOf base c csr x → a ≡ numberOf (w .answer) → a ≡ numberOf (writtenOf base (recordOf fields) csr x .answer)
+      (w : CsrWrite) (csr x a : ℕ) → w ≡ writtenOf base c csr x → a ≡ numberOf (w .answer) →
+      a ≡ numberOf (writtenOf base (recordOf fields) csr x .answer)
   written-number w csr x a h f = rw (f, h, e)
 
   pub written-fields :
@@ -46,12 +51,12 @@ module _ (fields : List ℕ) (c : Control) (e : c ≡ recordOf fields) where
       l ≡ fieldsOf (writtenOf base (recordOf fields) csr x .control)
   written-fields w csr x l h g = rw (g, h, e)
 
-module _ (p : ViewPlace) (size first count x : ℕ) (e : p ≡ placeOf base size first count) where
-  pub place-number : x ≡ numberOf (p .answer) → x ≡ numberOf (placeOf base size first count .answer)
+module _ (p : ViewPlace) (bytes first count x : ℕ) (e : p ≡ placeOf base bytes first count) where
+  pub place-number : x ≡ numberOf (p .answer) → x ≡ numberOf (placeOf base bytes first count .answer)
   place-number f = rw (f, e)
 
-  pub place-start : x ≡ p .start → x ≡ placeOf base size first count .start
+  pub place-start : x ≡ p .start → x ≡ placeOf base bytes first count .start
   place-start f = rw (f, e)
 
-  pub place-length : x ≡ p .length → x ≡ placeOf base size first count .length
-  place-length f = rw (f, e)
+  pub place-size : x ≡ p .size → x ≡ placeOf base bytes first count .size
+  place-size f = rw (f, e)

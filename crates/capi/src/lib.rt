@@ -4,38 +4,15 @@ ghost use Prim.Native.Nat.{_≤_};
 ghost use lib.ListN.{length};
 ghost use Rattle.answer.specs.Answer.{numberOf};
 ghost use Rattle.control.specs.Board.{base};
-ghost use Rattle.control.specs.Control.{reset};
+ghost use Rattle.control.specs.Control.{reset, fieldsOf, recordOf};
 ghost use Rattle.csr.specs.Csr.{readOf, writtenOf};
 ghost use Rattle.view.specs.View.{placeOf};
 ghost use Rattle.machine.specs.Machine.{turnOf};
-ghost use Rattle.turn.specs.Ran.{given};
+ghost use Rattle.machine.specs.Call.{given};
 ghost use Rattle.sheet.specs.Run.{printed, buffered};
-ghost use Rattle.capi.specs.Crossing.{fieldsOf, recordOf, Shows};
+ghost use Rattle.sheet.specs.Bounds.{sheetBound};
+ghost use Rattle.capi.specs.Crossing.{Shows};
 use control::Control;
-
-fn record_of(fields: [u64; 5]) -> Control
-    ensures { λ r. ⌜ r ≡ recordOf fields ⌝ }
-{
-    Control {
-        vtype: fields[0],
-        vl: fields[1],
-        vstart: fields[2],
-        vxrm: fields[3],
-        vxsat: fields[4],
-    }
-}
-
-fn fields_of(control: Control) -> [u64; 5]
-    ensures { λ r. ⌜ r ≡ fieldsOf control ⌝ }
-{
-    [
-        control.vtype,
-        control.vl,
-        control.vstart,
-        control.vxrm,
-        control.vxsat,
-    ]
-}
 
 // One turn of a word: the answer's number, and in the lent parts what the turn leaves.
 #[no_mangle]
@@ -50,7 +27,14 @@ pub extern "C" fn prashunde_turn(
     passed: &mut u64,
     address: &mut u64,
 ) -> u64
-    ensures { λ r. ⌜ Shows (turnOf base word allowance (given (now (registers .entry)) (now (scalars .entry)) (now (memory .entry)) (now (rights .entry)) (recordOf (now (control .entry))))) r (now (passed .exit)) (now (address .exit)) (now (registers .exit)) (now (scalars .exit)) (now (memory .exit)) (now (rights .entry)) (now (control .exit)) ⌝ }
+    ensures { λ r. ⌜
+        Shows
+        (turnOf base word allowance
+        (given (now (registers .entry)) (now (scalars .entry)) (now (memory .entry)) (now (rights .entry))
+        (recordOf (now (control .entry)))))
+        r (now (passed .exit)) (now (address .exit)) (now (registers .exit)) (now (scalars .exit)) (now (memory .exit))
+        (now (rights .entry)) (now (control .exit))
+        ⌝ }
 {
     let turned = turn::turn(
         word,
@@ -59,40 +43,43 @@ pub extern "C" fn prashunde_turn(
         scalars,
         memory,
         rights,
-        record_of(*control),
+        Control::of_fields(*control),
     );
     let answer = turned.answer;
-    *control = fields_of(turned.control);
+    let place = turned.place;
+    let after = turned.control;
+    *control = after.fields();
     *passed = turned.passed;
-    *address = turned.address;
+    *address = place.address;
     answer::number(answer)
 }
 
-// A CSR of the record; 0 beside a refusal.
+// A CSR of the record; 0 beside any other answer than 0.
 #[no_mangle]
 pub extern "C" fn prashunde_csr_read(csr: u64, control: &[u64; 5], value: &mut u64) -> u64
     ensures { λ r. ⌜ r ≡ numberOf (readOf base (recordOf (now (control .entry))) csr .answer) ⌝ }
     ensures { λ _. ⌜ now (value .exit) ≡ readOf base (recordOf (now (control .entry))) csr .value ⌝ }
 {
-    let read = csr::read(record_of(*control), csr);
+    let read = csr::read(Control::of_fields(*control), csr);
     let answer = read.answer;
     *value = read.value;
     answer::number(answer)
 }
 
-// The record after a write; the same record where it is refused.
+// The record after a write, through the write on a lent record; the same record beside any other answer than 0.
 #[no_mangle]
 pub extern "C" fn prashunde_csr_write(csr: u64, value: u64, control: &mut [u64; 5]) -> u64
     ensures { λ r. ⌜ r ≡ numberOf (writtenOf base (recordOf (now (control .entry))) csr value .answer) ⌝ }
     ensures { λ _. ⌜ now (control .exit) ≡ fieldsOf (writtenOf base (recordOf (now (control .entry))) csr value .control) ⌝ }
 {
-    let written = csr::write(record_of(*control), csr, value);
+    let written = csr_field::written(Control::of_fields(*control), csr, value);
     let answer = written.answer;
-    *control = fields_of(written.control);
+    let after = written.control;
+    *control = after.fields();
     answer::number(answer)
 }
 
-// Where a group of registers lies in the file: registers[start .. start + size]. Both are 0 beside a refusal.
+// Where a group of registers lies in the file: registers[start .. start + size]. Both are 0 beside any other answer than 0.
 #[no_mangle]
 pub extern "C" fn prashunde_view(
     registers: &[u8],
@@ -103,12 +90,12 @@ pub extern "C" fn prashunde_view(
 ) -> u64
     ensures { λ r. ⌜ r ≡ numberOf (placeOf base (length (now (registers .entry))) first count .answer) ⌝ }
     ensures { λ _. ⌜ now (start .exit) ≡ placeOf base (length (now (registers .entry))) first count .start ⌝ }
-    ensures { λ _. ⌜ now (size .exit) ≡ placeOf base (length (now (registers .entry))) first count .length ⌝ }
+    ensures { λ _. ⌜ now (size .exit) ≡ placeOf base (length (now (registers .entry))) first count .size ⌝ }
 {
     let place = view::place(registers.len(), first, count);
     let answer = place.answer;
     *start = place.start;
-    *size = place.length;
+    *size = place.size;
     answer::number(answer)
 }
 
@@ -117,7 +104,8 @@ pub extern "C" fn prashunde_view(
 pub extern "C" fn prashunde_reset(control: &mut [u64; 5])
     ensures { λ _. ⌜ now (control .exit) ≡ fieldsOf reset ⌝ }
 {
-    *control = fields_of(Control::reset());
+    let after = Control::reset();
+    *control = after.fields();
 }
 
 // The length of what a sheet prints, and the text in a buffer that is as long; a shorter one is left as it was.
@@ -125,7 +113,7 @@ pub extern "C" fn prashunde_reset(control: &mut [u64; 5])
 pub extern "C" fn prashunde_sheet(sheet: &[u8], out: &mut [u8]) -> u64
     ensures { λ r. ⌜ r ≡ length (printed (now (sheet .entry))) ⌝ }
     ensures { λ _. ⌜ now (out .exit) ≡ buffered (printed (now (sheet .entry))) (now (out .entry)) ⌝ }
-    ensures { λ r. ⌜ r ≤ 1060000 ⌝ }
+    ensures { λ r. ⌜ r ≤ sheetBound ⌝ }
 {
     sheet::run(sheet, out) as u64
 }

@@ -58,14 +58,16 @@ supported-sew-le b v w e = let h : sewOf v ≤ b .elen = search apart in omega a
 -- of an unsupported type too
 pub vlmax-le : (b : Board) (v : ℕ) → vlmaxOf b v ≤ 8 * b .vlenb
 unfolding vlmaxOf
-vlmax-le b v = div-le-of-le-mul (sewOf v) (omega (arith, mul-le-mul-right (b .vlenb) (lmul8-le v), mul-le-mul-right (8 * b .vlenb) (sew-ge v)))
+vlmax-le b v =
+    div-le-of-le-mul (sewOf v) (omega (arith, mul-le-mul-right (b .vlenb) (lmul8-le v), mul-le-mul-right (8 * b .vlenb) (sew-ge v)))
 
 -- LMUL8 by VLENB or ELEN
 pub product-fits : (x y : ℕ) → x ≤ 64 → y ≤ 64 → Fits w64 (x * y)
 product-fits x y p q = omega (arith, mul-le-mul p q)
 
 -- ---- records
-pub typed-well-apart : (b : Board) (c : Control) → typedWellOf b c ≡ true → ((c .vtype ≡ vill) × (c .vl ≡ 0)) ⊎ ((supportedOf b (c .vtype) ≡ true) × (c .vl ≤ vlmaxOf b (c .vtype)))
+pub typed-well-apart : (b : Board) (c : Control) → typedWellOf b c ≡ true
+    → ((c .vtype ≡ vill) × (c .vl ≡ 0)) ⊎ ((supportedOf b (c .vtype) ≡ true) × (c .vl ≤ vlmaxOf b (c .vtype)))
 unfolding typedWellOf
 typed-well-apart b c e =
     ⊎-elim

@@ -7,7 +7,8 @@ use Rattle.control.specs.declared.Board.{Board}
 abbrev pub base : Board
 base = record { vlenb = 16; elen = 64 }
 
--- the boards that the definitions are for: VLENB is a power of 2 and at most 16, ELEN at most 64 and at most VLEN
+-- for contracts of inner functions, and for boards other than `base`, which is one of them: the boards that the code is for. VLENB is a
+-- power of 2 and at most 16, ELEN at most 64 and at most VLEN
 pub record Valid (b : Board) : Type 0 where
   pub lenb : ℕ
   pub power : b .vlenb ≡ 2 ^ lenb

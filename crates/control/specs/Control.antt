@@ -1,6 +1,8 @@
 -- The control record: reset, the record after a setting instruction (document 01, 'Setting the vector type'), and which records can be.
 use Prim.Native.Nat.{ℕ, _*_, min}
 use mathlib.Core.Bool.{Bool, not, _&&_, cond}
+use mathlib.Core.List.{List, [], _∷_}
+use lib.ListN.{getD}
 use lib.Dec.{ltb, leb, eqb}
 use Rattle.control.specs.declared.Board.{Board}
 use Rattle.control.specs.declared.Control.{Control}
@@ -12,13 +14,37 @@ use Rattle.control.specs.Vtype.{vill, vlmaxOf, supportedOf}
 abbrev pub reset : Control
 reset = record { vtype = vill; vl = 0; vstart = 0; vxrm = 0; vxsat = 0 }
 
+-- ---- the record with one thing changed; vtype and vl go together
+
+abbrev pub withVtype : Control → ℕ → ℕ → Control
+withVtype c v vl = record { vtype = v; vl = vl; vstart = c .vstart; vxrm = c .vxrm; vxsat = c .vxsat }
+
+abbrev pub withVstart : Control → ℕ → Control
+withVstart c i = record { vtype = c .vtype; vl = c .vl; vstart = i; vxrm = c .vxrm; vxsat = c .vxsat }
+
+abbrev pub withVxrm : Control → ℕ → Control
+withVxrm c rm = record { vtype = c .vtype; vl = c .vl; vstart = c .vstart; vxrm = rm; vxsat = c .vxsat }
+
+abbrev pub withVxsat : Control → ℕ → Control
+withVxsat c sat = record { vtype = c .vtype; vl = c .vl; vstart = c .vstart; vxrm = c .vxrm; vxsat = sat }
+
+-- ---- the record as numbers, in this order: vtype, vl, vstart, vxrm, vxsat
+
+abbrev pub fieldsOf : Control → List ℕ
+fieldsOf c = c .vtype ∷ c .vl ∷ c .vstart ∷ c .vxrm ∷ c .vxsat ∷ []
+
+abbrev pub recordOf : List ℕ → Control
+recordOf l = record { vtype = getD l 0 0; vl = getD l 1 0; vstart = getD l 2 0; vxrm = getD l 3 0; vxsat = getD l 4 0 }
+
+-- ---- setting
+
 -- a setting instruction leaves vstart 0; vxrm and vxsat stay
-abbrev pub typedOf : Control → ℕ → ℕ → Control
-typedOf c v vl = record { vtype = v; vl = vl; vstart = 0; vxrm = c .vxrm; vxsat = c .vxsat }
+abbrev pub setTo : Control → ℕ → ℕ → Control
+setTo c v vl = withVstart (withVtype c v vl) 0
 
 -- "sets vtype to 2^63 and vl to 0"
 abbrev pub villOf : Control → Control
-villOf c = typedOf c vill 0
+villOf c = setTo c vill 0
 
 -- "vl is kept if vill was clear and VLMAX stays"
 abbrev pub keepsOf : Board → Control → ℕ → Bool
@@ -26,8 +52,8 @@ keepsOf b c v = not (eqb (c .vtype) vill) && eqb (vlmaxOf b (c .vtype)) (vlmaxOf
 
 -- the record after a setting instruction with the new vtype v (section 7); vl becomes the smaller of AVL and VLMAX
 unfoldable pub setOf : Board → Control → ℕ → Avl → Control
-setOf b c v (To avl) = cond (supportedOf b v) (typedOf c v (min avl (vlmaxOf b v))) (villOf c)
-setOf b c v Keep = cond (supportedOf b v && keepsOf b c v) (typedOf c v (c .vl)) (villOf c)
+setOf b c v (To avl) = cond (supportedOf b v) (setTo c v (min avl (vlmaxOf b v))) (villOf c)
+setOf b c v Keep = cond (supportedOf b v && keepsOf b c v) (setTo c v (c .vl)) (villOf c)
 
 -- vtype is 2^63 with vl 0, or supported with vl at most VLMAX
 unfoldable pub typedWellOf : Board → Control → Bool

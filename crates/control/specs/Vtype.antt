@@ -13,7 +13,7 @@ vill = 2 ^ 63
 abbrev pub lmul8Of : ℕ → ℕ
 lmul8Of v = getD (8 ∷ 16 ∷ 32 ∷ 64 ∷ 0 ∷ 1 ∷ 2 ∷ 4 ∷ []) (v % 8) 0
 
--- SEW (section 4.4.1), by vsew
+-- SEW (section 4.4.1), by vsew. Those above 64 are of types that are not supported
 abbrev pub sewOf : ℕ → ℕ
 sewOf v = getD (8 ∷ 16 ∷ 32 ∷ 64 ∷ 128 ∷ 256 ∷ 512 ∷ 1024 ∷ []) (v / 8 % 8) 0
 

@@ -4,7 +4,8 @@ ghost use mathlib.Core.Bool.{cond};
 ghost use Prim.Native.Nat.{min};
 ghost use Rattle.control.specs.Board.{Valid, base};
 ghost use Rattle.control.specs.Vtype.{lmul8Of, sewOf, vlmaxOf, supportedOf};
-ghost use Rattle.control.specs.Control.{reset, villOf, typedOf, keepsOf, setOf, typedWellOf, possibleOf};
+ghost use Rattle.control.specs.Control.{reset, withVtype, withVstart, withVxrm, withVxsat, fieldsOf, recordOf};
+ghost use Rattle.control.specs.Control.{villOf, setTo, keepsOf, setOf, typedWellOf, possibleOf};
 
 // VLENB (the bytes of a vector register) and ELEN (the bits of the largest element).
 pub struct Board {
@@ -19,6 +20,7 @@ impl Board {
         elen: 64,
     };
 
+    // The same, for callers whose contracts name it.
     pub fn base() -> Board
         ensures { λ r. ⌜ r ≡ base ⌝ }
     {
@@ -26,6 +28,7 @@ impl Board {
     }
 }
 
+// The control record (document 01, 'The machine on the screen').
 pub struct Control {
     pub vtype: u64,
     pub vl: u64,
@@ -49,6 +52,7 @@ const LMUL8: [u64; 8] = [8, 16, 32, 64, 0, 1, 2, 4];
 // SEW by vsew.
 const SEW: [u64; 8] = [8, 16, 32, 64, 128, 256, 512, 1024];
 
+// The smaller of two numbers.
 pub fn smaller(a: u64, b: u64) -> u64
     ensures { λ r. ⌜ r ≡ min a b ⌝ }
 {
@@ -56,6 +60,7 @@ pub fn smaller(a: u64, b: u64) -> u64
 }
 
 impl Control {
+    // vill alone.
     pub const RESET: Control = Control {
         vtype: 0x8000_0000_0000_0000,
         vl: 0,
@@ -64,24 +69,91 @@ impl Control {
         vxsat: 0,
     };
 
+    // The same, for callers whose contracts name it.
     pub fn reset() -> Control
         ensures { λ r. ⌜ r ≡ reset ⌝ }
     {
         Control::RESET
     }
 
+    // ---- the record with one thing changed
+
+    // Another vtype and vl, which go together.
+    pub fn with_vtype(self, vtype: u64, vl: u64) -> Control
+        ensures { λ r. ⌜ r ≡ withVtype self vtype vl ⌝ }
+    {
+        let mut next = self;
+        next.vtype = vtype;
+        next.vl = vl;
+        next
+    }
+
+    // Another vstart.
+    pub fn with_vstart(self, vstart: u64) -> Control
+        ensures { λ r. ⌜ r ≡ withVstart self vstart ⌝ }
+    {
+        let mut next = self;
+        next.vstart = vstart;
+        next
+    }
+
+    // Another vxrm.
+    pub fn with_vxrm(self, vxrm: u64) -> Control
+        ensures { λ r. ⌜ r ≡ withVxrm self vxrm ⌝ }
+    {
+        let mut next = self;
+        next.vxrm = vxrm;
+        next
+    }
+
+    // Another vxsat.
+    pub fn with_vxsat(self, vxsat: u64) -> Control
+        ensures { λ r. ⌜ r ≡ withVxsat self vxsat ⌝ }
+    {
+        let mut next = self;
+        next.vxsat = vxsat;
+        next
+    }
+
+    // ---- the record as numbers
+
+    // vtype, vl, vstart, vxrm, vxsat.
+    pub fn fields(self) -> [u64; 5]
+        ensures { λ r. ⌜ r ≡ fieldsOf self ⌝ }
+    {
+        [self.vtype, self.vl, self.vstart, self.vxrm, self.vxsat]
+    }
+
+    // The record of five numbers in this order.
+    pub fn of_fields(fields: [u64; 5]) -> Control
+        ensures { λ r. ⌜ r ≡ recordOf fields ⌝ }
+    {
+        Control {
+            vtype: fields[0],
+            vl: fields[1],
+            vstart: fields[2],
+            vxrm: fields[3],
+            vxsat: fields[4],
+        }
+    }
+
+    // ---- vtype
+
+    // 8 * LMUL.
     pub fn lmul8(vtype: u64) -> u64
         ensures { λ r. ⌜ r ≡ lmul8Of vtype ⌝ }
     {
         LMUL8[(vtype % 8) as usize]
     }
 
+    // SEW.
     pub fn sew(vtype: u64) -> u64
         ensures { λ r. ⌜ r ≡ sewOf vtype ⌝ }
     {
         SEW[(vtype / 8 % 8) as usize]
     }
 
+    // VLMAX = LMUL * VLEN / SEW.
     pub fn vlmax(board: Board, vtype: u64) -> u64
         requires { ⌜ Valid board ⌝ }
         ensures { λ r. ⌜ r ≡ vlmaxOf board vtype ⌝ }
@@ -89,7 +161,7 @@ impl Control {
         Control::lmul8(vtype) * board.vlenb / Control::sew(vtype)
     }
 
-    // `&` and `|` take both sides, as the definitions do: there is no branch.
+    // Whether vtype is supported. `&` and `|` take both sides, as the definitions do: there is no branch.
     pub fn supported(board: Board, vtype: u64) -> bool
         requires { ⌜ Valid board ⌝ }
         ensures { λ r. ⌜ r ≡ supportedOf board vtype ⌝ }
@@ -102,38 +174,21 @@ impl Control {
             & ((8 <= lmul8) | (8 * sew <= board.elen * lmul8))
     }
 
-    fn vill(self) -> Control
-        ensures { λ r. ⌜ r ≡ villOf self ⌝ }
+    // vstart is 0 after a setting instruction.
+    fn set_to(self, vtype: u64, vl: u64) -> Control
+        ensures { λ r. ⌜ r ≡ setTo self vtype vl ⌝ }
     {
-        Control {
-            vtype: VILL,
-            vl: 0,
-            vstart: 0,
-            vxrm: self.vxrm,
-            vxsat: self.vxsat,
-        }
-    }
-
-    fn typed(self, vtype: u64, vl: u64) -> Control
-        ensures { λ r. ⌜ r ≡ typedOf self vtype vl ⌝ }
-    {
-        Control {
-            vtype,
-            vl,
-            vstart: 0,
-            vxrm: self.vxrm,
-            vxsat: self.vxsat,
-        }
+        self.with_vtype(vtype, vl).with_vstart(0)
     }
 
     // The record at a new vtype and vl where that is allowed, otherwise at vill.
-    fn typed_if(self, allowed: bool, vtype: u64, vl: u64) -> Control
-        ensures { λ r. ⌜ r ≡ cond allowed (typedOf self vtype vl) (villOf self) ⌝ }
+    fn set_if(self, allowed: bool, vtype: u64, vl: u64) -> Control
+        ensures { λ r. ⌜ r ≡ cond allowed (setTo self vtype vl) (villOf self) ⌝ }
     {
         if allowed {
-            self.typed(vtype, vl)
+            self.set_to(vtype, vl)
         } else {
-            self.vill()
+            self.set_to(VILL, 0)
         }
     }
 
@@ -152,8 +207,8 @@ impl Control {
     {
         let supported = Control::supported(board, vtype);
         match avl {
-            Avl::To(n) => self.typed_if(supported, vtype, smaller(n, Control::vlmax(board, vtype))),
-            Avl::Keep => self.typed_if(supported & self.keeps(board, vtype), vtype, self.vl),
+            Avl::To(n) => self.set_if(supported, vtype, smaller(n, Control::vlmax(board, vtype))),
+            Avl::Keep => self.set_if(supported & self.keeps(board, vtype), vtype, self.vl),
         }
     }
 

@@ -1,18 +1,18 @@
--- Document 01, 'Control panel': reads and writes by CSR number, in the order of its refusals.
+-- Document 01, 'Control panel': reads and writes by CSR number, with its answers in their order.
 use Prim.Native.Nat.{ℕ, _+_, _*_, _/_, _%_}
 use mathlib.Core.Bool.{cond}
 use lib.Dec.{eqb}
 use Rattle.answer.specs.declared.Answer.the-variants.{Finished, Illegal, BadControl}
 use Rattle.control.specs.declared.Board.{Board}
 use Rattle.control.specs.declared.Control.{Control}
-use Rattle.control.specs.Control.{possibleOf}
+use Rattle.control.specs.Control.{withVstart, withVxrm, withVxsat, possibleOf}
 use Rattle.csr.specs.declared.CsrRead.{CsrRead}
 use Rattle.csr.specs.declared.CsrWrite.{CsrWrite}
 
 abbrev pub value : ℕ → CsrRead
 value x = record { answer = Finished; value = x }
 
--- 36 comes first; an unknown number is 2; a refused read returns 0
+-- 36 comes first; an unknown number is 2. Beside both the value is 0
 unfoldable pub readOf : Board → Control → ℕ → CsrRead
 readOf b c csr =
     cond (possibleOf b c)
@@ -29,13 +29,13 @@ readOf b c csr =
 abbrev pub changed : Control → CsrWrite
 changed c = record { answer = Finished; control = c }
 
--- A write keeps the low bits: of vstart those of 0 .. VLEN - 1, of vxsat 1, of vxrm 2, of vcsr 3. A refused one changes none
+-- a write keeps the low bits: of vstart those of 0 .. VLEN - 1, of vxsat 1, of vxrm 2, of vcsr 3. Beside 36 and 2 the record is as before
 unfoldable pub writtenOf : Board → Control → ℕ → ℕ → CsrWrite
 writtenOf b c csr x =
     cond (possibleOf b c)
-    (cond (eqb csr 0x008) (changed (record { vtype = c .vtype; vl = c .vl; vstart = x % (8 * b .vlenb); vxrm = c .vxrm; vxsat = c .vxsat }))
-    (cond (eqb csr 0x009) (changed (record { vtype = c .vtype; vl = c .vl; vstart = c .vstart; vxrm = c .vxrm; vxsat = x % 2 }))
-    (cond (eqb csr 0x00A) (changed (record { vtype = c .vtype; vl = c .vl; vstart = c .vstart; vxrm = x % 4; vxsat = c .vxsat }))
-    (cond (eqb csr 0x00F) (changed (record { vtype = c .vtype; vl = c .vl; vstart = c .vstart; vxrm = x / 2 % 4; vxsat = x % 2 }))
+    (cond (eqb csr 0x008) (changed (withVstart c (x % (8 * b .vlenb))))
+    (cond (eqb csr 0x009) (changed (withVxsat c (x % 2)))
+    (cond (eqb csr 0x00A) (changed (withVxrm c (x % 4)))
+    (cond (eqb csr 0x00F) (changed (withVxsat (withVxrm c (x / 2 % 4)) (x % 2)))
     (record { answer = Illegal; control = c })))))
     (record { answer = BadControl; control = c })

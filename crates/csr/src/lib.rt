@@ -6,13 +6,13 @@ use answer::Answer;
 use control::Board;
 use control::Control;
 
-// What a read comes to: 0 beside a refusal.
+// What a read comes to: the value is 0 beside any other answer than 0.
 pub struct CsrRead {
     pub answer: Answer,
     pub value: u64,
 }
 
-// What a write comes to: the record after it.
+// What a write comes to, and the record after it: the same record beside any other answer than 0.
 pub struct CsrWrite {
     pub answer: Answer,
     pub control: Control,
@@ -29,40 +29,24 @@ pub fn read_on(board: Board, control: Control, csr: u64) -> CsrRead
             value: 0,
         };
     }
-    let answer = Answer::Finished;
-    match csr {
-        0x008 => CsrRead {
-            answer,
-            value: control.vstart,
-        },
-        0x009 => CsrRead {
-            answer,
-            value: control.vxsat,
-        },
-        0x00A => CsrRead {
-            answer,
-            value: control.vxrm,
-        },
-        0x00F => CsrRead {
-            answer,
-            value: 2 * control.vxrm + control.vxsat,
-        },
-        0xC20 => CsrRead {
-            answer,
-            value: control.vl,
-        },
-        0xC21 => CsrRead {
-            answer,
-            value: control.vtype,
-        },
-        0xC22 => CsrRead {
-            answer,
-            value: board.vlenb,
-        },
-        _ => CsrRead {
-            answer: Answer::Illegal,
-            value: 0,
-        },
+    let value = match csr {
+        0x008 => control.vstart,
+        0x009 => control.vxsat,
+        0x00A => control.vxrm,
+        0x00F => 2 * control.vxrm + control.vxsat,
+        0xC20 => control.vl,
+        0xC21 => control.vtype,
+        0xC22 => board.vlenb,
+        _ => {
+            return CsrRead {
+                answer: Answer::Illegal,
+                value: 0,
+            };
+        }
+    };
+    CsrRead {
+        answer: Answer::Finished,
+        value,
     }
 }
 
@@ -105,12 +89,14 @@ pub fn write_on(board: Board, control: Control, csr: u64, value: u64) -> CsrWrit
     }
 }
 
+// A read on the board of document 01.
 pub fn read(control: Control, csr: u64) -> CsrRead
     ensures { λ r. ⌜ r ≡ readOf base control csr ⌝ }
 {
     read_on(Board::base(), control, csr)
 }
 
+// A write on the board of document 01.
 pub fn write(control: Control, csr: u64, value: u64) -> CsrWrite
     ensures { λ r. ⌜ r ≡ writtenOf base control csr value ⌝ }
 {

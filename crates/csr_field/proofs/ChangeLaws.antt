@@ -17,7 +17,7 @@ either : {P : Type 0} (t : Bool) → (t ≡ true → P) → (t ≡ false → P) 
 either true f g = f refl
 either false f g = g refl
 
--- by the outcome of a write: the record after it and the change, field by field, then the two refusals
+-- by the outcome of a write: the record after it and the change, field by field, then the two other answers
 outcomes : (b : Board) (c : Control) (csr x : ℕ) (P : CsrWrite → Change → Type 0) → ((d : Change) → P (changed (after d c)) d)
     → P (record { answer = Illegal; control = c }) Nothing → ((d : Change) → P (record { answer = BadControl; control = c }) d)
     → P (writtenOf b c csr x) (changeOf csr (writtenOf b c csr x .control))
@@ -35,6 +35,6 @@ pub finished : (b : Board) (c : Control) (csr x : ℕ) → writtenOf b c csr x .
     → after (changeOf csr (writtenOf b c csr x .control)) c ≡ writtenOf b c csr x .control
 finished b c csr x = outcomes b c csr x (λ w d. w .answer ≡ Finished → after d c ≡ w .control) (λ d _. refl) (λ _. refl) (λ d h. cc)
 
-pub refused : (b : Board) (c : Control) (csr x : ℕ) → (writtenOf b c csr x .answer ≡ Finished → ⊥) → c ≡ writtenOf b c csr x .control
-refused b c csr x = outcomes b c csr x (λ w d. (w .answer ≡ Finished → ⊥) → c ≡ w .control) (λ d n. absurd (n refl)) (λ _. refl)
+pub unfinished : (b : Board) (c : Control) (csr x : ℕ) → (writtenOf b c csr x .answer ≡ Finished → ⊥) → c ≡ writtenOf b c csr x .control
+unfinished b c csr x = outcomes b c csr x (λ w d. (w .answer ≡ Finished → ⊥) → c ≡ w .control) (λ d n. absurd (n refl)) (λ _. refl)
     (λ d _. refl)

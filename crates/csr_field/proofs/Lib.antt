@@ -1,3 +1,4 @@
 pub mod ChangeLaws
 pub mod Arms
 pub mod Spelled
+pub mod Walks

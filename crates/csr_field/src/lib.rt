@@ -16,8 +16,8 @@ pub enum Change {
     Vcsr(u64, u64),
 }
 
-// What a write comes to.
-pub struct Plan {
+// What a write comes to: its answer, and what it stores.
+pub struct FieldWrite {
     pub answer: Answer,
     pub change: Change,
 }
@@ -35,9 +35,12 @@ fn change_of(csr: u64, next: Control) -> Change
     }
 }
 
-// The plan of a write, by the write of a record by value.
-fn plan_of(control: Control, csr: u64, value: u64) -> Plan
-    ensures { λ r. ⌜ (r .answer ≡ writtenOf base control csr value .answer) × (after (r .change) control ≡ writtenOf base control csr value .control) ⌝ }
+// What a write comes to, by the write of a record by value.
+fn field_write_of(control: Control, csr: u64, value: u64) -> FieldWrite
+    ensures { λ r. ⌜
+        (r .answer ≡ writtenOf base control csr value .answer)
+        × (after (r .change) control ≡ writtenOf base control csr value .control)
+        ⌝ }
 {
     let written = csr::write(control, csr, value);
     let answer = written.answer;
@@ -46,15 +49,18 @@ fn plan_of(control: Control, csr: u64, value: u64) -> Plan
         Answer::Finished => change_of(csr, next),
         _ => Change::Nothing,
     };
-    Plan { answer, change }
+    FieldWrite { answer, change }
 }
 
 // The write: the record is lent, and one field of it is stored to (0x00F: two).
 pub fn write(control: &mut Control, csr: u64, value: u64) -> Answer
-    ensures { λ r. ⌜ (r ≡ writtenOf base (now (control .entry)) csr value .answer) × (now (control .exit) ≡ writtenOf base (now (control .entry)) csr value .control) ⌝ }
+    ensures { λ r. ⌜
+        (r ≡ writtenOf base (now (control .entry)) csr value .answer)
+        × (now (control .exit) ≡ writtenOf base (now (control .entry)) csr value .control)
+        ⌝ }
 {
-    let plan = plan_of(*control, csr, value);
-    match plan.change {
+    let field_write = field_write_of(*control, csr, value);
+    match field_write.change {
         Change::Nothing => {}
         Change::Vstart(x) => control.vstart = x,
         Change::Vxsat(x) => control.vxsat = x,
@@ -64,7 +70,7 @@ pub fn write(control: &mut Control, csr: u64, value: u64) -> Answer
             control.vxsat = y;
         }
     }
-    plan.answer
+    field_write.answer
 }
 
 // The same for a caller that has the record by value: it is lent to `write` and handed back.

@@ -18,8 +18,9 @@ use Rattle.decode.specs.declared.Mode.{Mode}
 use Rattle.decode.specs.declared.Instruction.{Instruction}
 use Rattle.decode.specs.declared.Instruction.the-variants as I
 use Rattle.decode.specs.declared.Entry.{Entry}
-use Rattle.decode.specs.declared.Entry.the-variants.{Reserved, Operation, OnMask, MergeOrMove, Vxunary0, Vwxunary0, Vmunary0}
-use Rattle.decode.specs.Word.{funct3, funct6, rs2, vm, masked, vmFits, sourceOf, resolvedOf, namedOf, arithmeticOf, avlOf, settingOf, widthOf, access, plainOf, maskOf, wholeOf, unitOf, memoryOf, decodeOf}
+use Rattle.decode.specs.declared.Entry.the-variants.{Reserved, Operation, OnMask, MergeOrMove, Vxunary0, Vwxunary0, Vmunary0, Setting}
+use Rattle.decode.specs.Word.{funct3, funct6, rs2, vm, masked, vmFits, sourceOf, resolvedOf, namedOf, arithmeticOf}
+use Rattle.decode.specs.Word.{avlOf, settingOf, widthOf, access, plainOf, maskOf, wholeCount, wholeOf, unitOf, memoryOf, decodeOf}
 use Rattle.decode.specs.Listing.{Row, listing, find, keep, inColumn, entryOf}
 use Rattle.decode.specs.Fields.{SourceFits, SizeFits, AvlFits, ModeFits, Fits}
 
@@ -31,6 +32,16 @@ ten-bits n = omega arith
 
 eleven-bits : (n : ℕ) → n % 2 ^ 11 < 2 ^ 11
 eleven-bits n = omega arith
+
+-- ---- setting
+
+avl-fits : (w : ℕ) → AvlFits (avlOf w)
+unfolding avlOf
+avl-fits w = search (either AvlFits, five-bits)
+
+setting-fits : (w : ℕ) → Fits (settingOf w)
+unfolding settingOf
+setting-fits w = search (either Fits, avl-fits, five-bits, ten-bits, eleven-bits)
 
 -- ---- arithmetic
 
@@ -66,17 +77,18 @@ takesNumber MergeOrMove = true
 takesNumber Vxunary0 = false
 takesNumber Vwxunary0 = false
 takesNumber Vmunary0 = false
+takesNumber Setting = true
 
-abbrev all : List Row → Bool
-all [] = true
-all (r ∷ rs) = takesNumber (r .entry) && all rs
+abbrev allTake : List Row → Bool
+allTake [] = true
+allTake (r ∷ rs) = takesNumber (r .entry) && allTake rs
 
-find-all : (rs : List Row) (k : ℕ) → all rs ≡ true → takesNumber (find rs k) ≡ true
+find-all : (rs : List Row) (k : ℕ) → allTake rs ≡ true → takesNumber (find rs k) ≡ true
 unfolding find
 find-all [] k h = refl
 find-all (r ∷ rs) k h =
     either (λ (e : Entry). takesNumber e ≡ true) (eqb k (r .number)) (r .entry) (find rs k)
-    (λ t. both-left (takesNumber (r .entry)) (all rs) h) (λ t. find-all rs k (both-right (takesNumber (r .entry)) (all rs) h))
+    (λ t. both-left (takesNumber (r .entry)) (allTake rs) h) (λ t. find-all rs k (both-right (takesNumber (r .entry)) (allTake rs) h))
 
 -- funct3 of OPIVI, OPIVX and OPMVX
 abbrev ofNumber : ℕ → Bool
@@ -103,6 +115,7 @@ resolved MergeOrMove w h =
 resolved Vxunary0 w h = cc
 resolved Vwxunary0 w h = cc
 resolved Vmunary0 w h = cc
+resolved Setting w h = h
 
 source-sized : (z : Size) (w : ℕ) → (ofNumber (funct3 w) ≡ true → z ≡ Single) → SizeFits z (sourceOf w)
 unfolding sourceOf
@@ -126,22 +139,13 @@ named-fits MergeOrMove w f = tt
 named-fits Vxunary0 w f = tt
 named-fits Vwxunary0 w f = tt
 named-fits Vmunary0 w f = tt
+named-fits Setting w f = setting-fits w
 
 arithmetic-fits : (w : ℕ) → Fits (arithmeticOf w)
 unfolding arithmeticOf
 arithmetic-fits w =
     named-fits (resolvedOf (entryOf (funct3 w) (funct6 w)) w) w
     (λ n. resolved (entryOf (funct3 w) (funct6 w)) w (column (funct3 w) (funct6 w) n))
-
--- ---- setting
-
-avl-fits : (w : ℕ) → AvlFits (avlOf w)
-unfolding avlOf
-avl-fits w = search (either AvlFits, five-bits)
-
-setting-fits : (w : ℕ) → Fits (settingOf w)
-unfolding settingOf
-setting-fits w = search (either Fits, avl-fits, five-bits, ten-bits, eleven-bits)
 
 -- ---- loads and stores
 
@@ -160,20 +164,16 @@ abbrev Count : ℕ → Type 0
 Count n = OneOf (1 ∷ 2 ∷ 4 ∷ 8 ∷ []) (n + 1)
 
 -- a number that one of some tests finds
-found : (P : ℕ → Type 0) (k n : ℕ) {b : Bool} → P n → (b ≡ true → P k) → (eqb k n || b) ≡ true → P k
-found P k n {b = b} p f = at (eqb k n) refl
-  where
-    at : (t : Bool) → eqb k n ≡ t → (t || b) ≡ true → P k
-    at true e h = subst P (sym (eqb-true k n e)) p
-    at false e h = f h
+found : (P : ℕ → Type 0) (k n : ℕ) {b : Bool} → (b ≡ true → P k) → P n → (b || eqb k n) ≡ true → P k
+found P k n f p h = ⊎-elim f (λ e. subst P (sym (eqb-true k n e)) p) (or-cases _ (eqb k n) h)
 
-count-fits : (n : ℕ) → (eqb n 0 || (eqb n 1 || (eqb n 3 || eqb n 7))) ≡ true → Count n
+count-fits : (n : ℕ) → wholeCount n ≡ true → Count n
 count-fits n =
-    found Count n 0 (inl refl) (found Count n 1 (inr (inl refl)) (found Count n 3 (inr (inr (inl refl)))
-    (λ e. subst Count (sym (eqb-true n 7 e)) (inr (inr (inr refl))))))
+    found Count n 7 (found Count n 3 (found Count n 1 (λ e. subst Count (sym (eqb-true n 0 e)) (inl refl)) (inr (inl refl)))
+    (inr (inr (inl refl)))) (inr (inr (inr refl)))
 
-middle : (p q r : Bool) → (p && (q && r)) ≡ true → q ≡ true
-middle p q r h = both-left q r (both-right p (q && r) h)
+middle : (p q r : Bool) → (p && q && r) ≡ true → q ≡ true
+middle p q r h = both-right p q (both-left (p && q) r h)
 
 left-false : (p q : Bool) → (p || q) ≡ false → p ≡ false
 left-false true q h = h
@@ -195,7 +195,7 @@ memory-fits store w = search (either Fits, unit-fits, access-fits, left-false, f
 
 pub fits : (w : ℕ) → Fits (decodeOf w)
 unfolding decodeOf
-fits w = search (either Fits, setting-fits, arithmetic-fits, memory-fits)
+fits w = search (either Fits, arithmetic-fits, memory-fits)
 
 -- what a decoded word is found to be, as in an arm of a `match` on it
 pub arm-fits : (w : ℕ) (r i : Instruction) → r ≡ decodeOf w → r ≡ i → Fits i

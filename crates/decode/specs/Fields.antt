@@ -1,4 +1,5 @@
--- What the fields of a decoded word are within: registers and immediates below 32, EEW 8 to 64, 1, 2, 4 or 8 whole registers.
+-- For contracts of inner functions, not to be believed: what the fields of a decoded word are within, registers and immediates below 32,
+-- EEW 8 to 64, 1, 2, 4 or 8 whole registers.
 use Prim.Native.Nat.{_<_, _^_}
 use mathlib.Core.List.{[], _∷_}
 use mathlib.Core.Path.{_≡_}
@@ -58,7 +59,7 @@ pub record SettingFits (s : Setting) : Type 0 where
   pub vtype : TypeFits (s .vtype)
 
 abbrev pub ModeFits : Mode → Type 0
-ModeFits M.Unit = Unit {0}
+ModeFits M.UnitStride = Unit {0}
 ModeFits (M.Strided r) = r < 32
 ModeFits (M.Indexed r) = r < 32
 ModeFits M.MaskBytes = Unit {0}

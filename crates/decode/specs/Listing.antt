@@ -3,10 +3,18 @@ use Prim.Native.Nat.{ℕ}
 use mathlib.Core.Bool.{Bool, false, _||_, cond}
 use mathlib.Core.List.{List, [], _∷_}
 use lib.Dec.{eqb}
-use Rattle.operation.specs.declared.Op.the-variants.{Vadd, Vsub, Vrsub, Vwaddu, Vwadd, Vwsubu, Vwsub, VwadduW, VwaddW, VwsubuW, VwsubW, VzextVf2, VsextVf2, VzextVf4, VsextVf4, VzextVf8, VsextVf8, Vadc, Vsbc, Vmadc, Vmsbc, Vand, Vor, Vxor, Vsll, Vsrl, Vsra, Vnsrl, Vnsra, Vmseq, Vmsne, Vmsltu, Vmslt, Vmsleu, Vmsle, Vmsgtu, Vmsgt, Vminu, Vmin, Vmaxu, Vmax, Vmul, Vmulh, Vmulhu, Vmulhsu, Vdivu, Vdiv, Vremu, Vrem, Vwmul, Vwmulu, Vwmulsu, Vmacc, Vnmsac, Vmadd, Vnmsub, Vwmaccu, Vwmacc, Vwmaccsu, Vwmaccus, Vsaddu, Vsadd, Vssubu, Vssub, Vaaddu, Vaadd, Vasubu, Vasub, Vsmul, Vssrl, Vssra, Vnclipu, Vnclip, Vmand, Vmnand, Vmandn, Vmxor, Vmor, Vmnor, Vmorn, Vmxnor}
+use Rattle.operation.specs.declared.Op.the-variants.{Vadd, Vsub, Vrsub, Vwaddu, Vwadd, Vwsubu, Vwsub, VwadduW, VwaddW, VwsubuW, VwsubW}
+use Rattle.operation.specs.declared.Op.the-variants.{VzextVf2, VsextVf2, VzextVf4, VsextVf4, VzextVf8, VsextVf8, Vadc, Vsbc, Vmadc, Vmsbc}
+use Rattle.operation.specs.declared.Op.the-variants.{Vand, Vor, Vxor, Vsll, Vsrl, Vsra, Vnsrl, Vnsra}
+use Rattle.operation.specs.declared.Op.the-variants.{Vmseq, Vmsne, Vmsltu, Vmslt, Vmsleu, Vmsle, Vmsgtu, Vmsgt, Vminu, Vmin, Vmaxu, Vmax}
+use Rattle.operation.specs.declared.Op.the-variants.{Vmul, Vmulh, Vmulhu, Vmulhsu, Vdivu, Vdiv, Vremu, Vrem, Vwmul, Vwmulu, Vwmulsu}
+use Rattle.operation.specs.declared.Op.the-variants.{Vmacc, Vnmsac, Vmadd, Vnmsub, Vwmaccu, Vwmacc, Vwmaccsu, Vwmaccus}
+use Rattle.operation.specs.declared.Op.the-variants.{Vsaddu, Vsadd, Vssubu, Vssub, Vaaddu, Vaadd, Vasubu, Vasub, Vsmul}
+use Rattle.operation.specs.declared.Op.the-variants.{Vssrl, Vssra, Vnclipu, Vnclip}
+use Rattle.operation.specs.declared.Op.the-variants.{Vmand, Vmnand, Vmandn, Vmxor, Vmor, Vmnor, Vmorn, Vmxnor}
 use Rattle.decode.specs.declared.MaskOp.the-variants.{Vcpop, Vfirst, Vmsbf, Vmsof, Vmsif}
 use Rattle.decode.specs.declared.Entry.{Entry}
-use Rattle.decode.specs.declared.Entry.the-variants.{Reserved, Operation, OnMask, MergeOrMove, Vxunary0, Vwxunary0, Vmunary0}
+use Rattle.decode.specs.declared.Entry.the-variants.{Reserved, Operation, OnMask, MergeOrMove, Vxunary0, Vwxunary0, Vmunary0, Setting}
 
 -- the columns that an operation is listed in, by funct3; its number, funct6; what the word names
 pub record Row : Type 0 where
@@ -17,24 +25,24 @@ pub record Row : Type 0 where
 abbrev pub row : List ℕ → ℕ → Entry → Row
 row cs k e = record { columns = cs; number = k; entry = e }
 
--- funct3 (section 11.1): OPIVV 0, OPIVI 3, OPIVX 4; OPMVV 2, OPMVX 6
+-- funct3 (section 11.1): OPIVV 000, OPIVI 011, OPIVX 100; OPMVV 010, OPMVX 110
 abbrev pub vxi : List ℕ
-vxi = 0 ∷ 4 ∷ 3 ∷ []
+vxi = 0b000 ∷ 0b100 ∷ 0b011 ∷ []
 
 abbrev pub vx : List ℕ
-vx = 0 ∷ 4 ∷ []
+vx = 0b000 ∷ 0b100 ∷ []
 
 abbrev pub xi : List ℕ
-xi = 4 ∷ 3 ∷ []
+xi = 0b100 ∷ 0b011 ∷ []
 
 abbrev pub mvx : List ℕ
-mvx = 2 ∷ 6 ∷ []
+mvx = 0b010 ∷ 0b110 ∷ []
 
 abbrev pub mv : List ℕ
-mv = 2 ∷ []
+mv = 0b010 ∷ []
 
 abbrev pub mx : List ℕ
-mx = 6 ∷ []
+mx = 0b110 ∷ []
 
 unfoldable pub listing : List Row
 listing =
@@ -161,13 +169,6 @@ unfoldable pub find : List Row → ℕ → Entry
 find [] k = Reserved
 find (r ∷ rs) k = cond (eqb k (r .number)) (r .entry) (find rs k)
 
--- what funct3 and funct6 name
+-- what funct3 and funct6 name; OPCFG, 111, has the setting instructions, whatever funct6 is
 unfoldable pub entryOf : ℕ → ℕ → Entry
-entryOf funct3 funct6 = find (keep (inColumn funct3) listing) funct6
-
--- the OPMVV and OPMVX columns together
-abbrev pub inOpm : Row → Bool
-inOpm r = inColumn 2 r || inColumn 6 r
-
-unfoldable pub opmOf : ℕ → Entry
-opmOf funct6 = find (keep inOpm listing) funct6
+entryOf funct3 funct6 = cond (eqb funct3 0b111) Setting (find (keep (inColumn funct3) listing) funct6)

@@ -5,7 +5,7 @@ use lib.Dec.{eqb}
 use Rattle.operation.specs.declared.Op.{Op}
 use Rattle.operation.specs.declared.Op.the-variants.{Vmerge, Vmv}
 use Rattle.operation.specs.declared.V0.{V0}
-use Rattle.operation.specs.declared.V0.the-variants.{Masks, Carry, MaybeCarry, Unused}
+use Rattle.operation.specs.declared.V0.the-variants.{Masks, Operand, MaybeOperand, Unused}
 use Rattle.operation.specs.Shape.{shapeOf}
 use Rattle.decode.specs.declared.Source.{Source}
 use Rattle.decode.specs.declared.Source.the-variants.{Vector, Scalar, Immediate}
@@ -14,11 +14,11 @@ use Rattle.decode.specs.declared.AvlSource.the-variants.{Register, Numbe
 use Rattle.decode.specs.declared.TypeSource.{TypeSource}
 use Rattle.decode.specs.declared.TypeSource.the-variants.{Given, InRegister}
 use Rattle.decode.specs.declared.Mode.{Mode}
-use Rattle.decode.specs.declared.Mode.the-variants.{Unit, Strided, Indexed, MaskBytes, Whole}
+use Rattle.decode.specs.declared.Mode.the-variants.{UnitStride, Strided, Indexed, MaskBytes, Whole}
 use Rattle.decode.specs.declared.Instruction.{Instruction}
 use Rattle.decode.specs.declared.Instruction.the-variants as I
 use Rattle.decode.specs.declared.Entry.{Entry}
-use Rattle.decode.specs.declared.Entry.the-variants.{Reserved, Operation, OnMask, MergeOrMove, Vxunary0, Vwxunary0, Vmunary0}
+use Rattle.decode.specs.declared.Entry.the-variants.{Reserved, Operation, OnMask, MergeOrMove, Vxunary0, Vwxunary0, Vmunary0, Setting}
 use Rattle.decode.specs.Listing.{vxunary0, vwxunary0, vmunary0, find, entryOf}
 
 -- ---- the fields of a word
@@ -42,18 +42,21 @@ rs1 w = w / 2 ^ 15 % 32
 abbrev pub rs2 : ℕ → ℕ
 rs2 w = w / 2 ^ 20 % 32
 
+-- 0 where v0 masks
 abbrev pub vm : ℕ → ℕ
 vm w = w / 2 ^ 25 % 2
 
 abbrev pub funct6 : ℕ → ℕ
 funct6 w = w / 2 ^ 26 % 64
 
+-- unit-stride, strided or indexed
 abbrev pub mop : ℕ → ℕ
 mop w = w / 2 ^ 26 % 4
 
 abbrev pub mew : ℕ → ℕ
 mew w = w / 2 ^ 28 % 2
 
+-- one less than the number of fields
 abbrev pub nf : ℕ → ℕ
 nf w = w / 2 ^ 29 % 8
 
@@ -65,14 +68,14 @@ masked w = eqb (vm w) 0
 -- what the vs1 field is, by funct3
 unfoldable pub sourceOf : ℕ → Source
 sourceOf w =
-    cond (eqb (funct3 w) 3) (Immediate (rs1 w))
-    (cond (eqb (funct3 w) 4 || eqb (funct3 w) 6) (Scalar (rs1 w)) (Vector (rs1 w)))
+    cond (eqb (funct3 w) 0b011) (Immediate (rs1 w))
+    (cond (eqb (funct3 w) 0b100 || eqb (funct3 w) 0b110) (Scalar (rs1 w)) (Vector (rs1 w)))
 
 -- the vm bits that an operation has
 abbrev pub vmFits : V0 → ℕ → Bool
 vmFits Masks vm = true
-vmFits MaybeCarry vm = true
-vmFits Carry vm = eqb vm 0
+vmFits MaybeOperand vm = true
+vmFits Operand vm = eqb vm 0
 vmFits Unused vm = eqb vm 1
 
 -- the entries that further fields decide; vmv shares its number with vmerge, and its vs2 field is 0 (section 12.16)
@@ -84,6 +87,7 @@ resolvedOf MergeOrMove w = cond (masked w) (Operation Vmerge) (cond (eqb (rs2 w)
 resolvedOf Vxunary0 w = find vxunary0 (rs1 w)
 resolvedOf Vwxunary0 w = find vwxunary0 (rs1 w)
 resolvedOf Vmunary0 w = find vmunary0 (rs1 w)
+resolvedOf Setting w = Setting
 
 -- an operation with its fields
 abbrev pub operationOf : Op → ℕ → Instruction
@@ -92,10 +96,30 @@ operationOf op w =
     (I.Arithmetic (record { op = op; vd = rd w; vs2 = rs2 w; source = sourceOf w; masked = masked w }))
     I.Illegal
 
+-- ---- setting instructions (section 7)
+
+-- section 7.2: rs1, or 2 ^ 64 − 1 where it is x0, or vl kept where rd is x0 too
+unfoldable pub avlOf : ℕ → AvlSource
+avlOf w = cond (eqb (rs1 w) 0) (cond (eqb (rd w) 0) Kept Largest) (Register (rs1 w))
+
+abbrev pub settingBy : ℕ → AvlSource → TypeSource → Instruction
+settingBy w avl vtype = I.Setting (record { rd = rd w; avl = avl; vtype = vtype })
+
+-- vsetvli has bit 31 clear, vsetivli bits 31 and 30 set, vsetvl bits 31 to 25 1000000
+unfoldable pub settingOf : ℕ → Instruction
+settingOf w =
+    cond (eqb (w / 2 ^ 31) 0) (settingBy w (avlOf w) (Given (w / 2 ^ 20 % 2 ^ 11)))
+    (cond (eqb (w / 2 ^ 30) 0b11) (settingBy w (Number (rs1 w)) (Given (w / 2 ^ 20 % 2 ^ 10)))
+    (cond (eqb (w / 2 ^ 25) 0b1000000) (settingBy w (avlOf w) (InRegister (rs2 w)))
+    I.Illegal))
+
+-- ---- opcode 0x57
+
 -- what a resolved entry names
 abbrev pub namedOf : Entry → ℕ → Instruction
 namedOf (Operation op) w = operationOf op w
 namedOf (OnMask op) w = I.Mask (record { op = op; rd = rd w; vs2 = rs2 w; masked = masked w })
+namedOf Setting w = settingOf w
 namedOf Reserved w = I.Illegal
 namedOf MergeOrMove w = I.Illegal
 namedOf Vxunary0 w = I.Illegal
@@ -105,28 +129,12 @@ namedOf Vmunary0 w = I.Illegal
 unfoldable pub arithmeticOf : ℕ → Instruction
 arithmeticOf w = namedOf (resolvedOf (entryOf (funct3 w) (funct6 w)) w) w
 
--- ---- setting instructions (section 7)
-
--- section 7.2: rs1, or 2 ^ 64 − 1 where it is x0, or vl kept where rd is x0 too
-unfoldable pub avlOf : ℕ → AvlSource
-avlOf w = cond (eqb (rs1 w) 0) (cond (eqb (rd w) 0) Kept Largest) (Register (rs1 w))
-
-abbrev pub setting : ℕ → AvlSource → TypeSource → Instruction
-setting w avl vtype = I.Setting (record { rd = rd w; avl = avl; vtype = vtype })
-
--- vsetvli has bit 31 clear, vsetivli bits 31 and 30 set, vsetvl bits 31 to 25 1000000
-unfoldable pub settingOf : ℕ → Instruction
-settingOf w =
-    cond (eqb (w / 2 ^ 31) 0) (setting w (avlOf w) (Given (w / 2 ^ 20 % 2 ^ 11)))
-    (cond (eqb (w / 2 ^ 30) 3) (setting w (Number (rs1 w)) (Given (w / 2 ^ 20 % 2 ^ 10)))
-    (cond (eqb (w / 2 ^ 25) 0b1000000) (setting w (avlOf w) (InRegister (rs2 w)))
-    I.Illegal))
-
 -- ---- loads and stores (section 8)
 
 -- EEW by the width field (section 8.3); 0 for the widths of scalar floating point
 unfoldable pub widthOf : ℕ → ℕ
-widthOf width = cond (eqb width 0) 8 (cond (eqb width 5) 16 (cond (eqb width 6) 32 (cond (eqb width 7) 64 0)))
+widthOf width =
+    cond (eqb width 0b000) 8 (cond (eqb width 0b101) 16 (cond (eqb width 0b110) 32 (cond (eqb width 0b111) 64 0)))
 
 abbrev pub access : Bool → Mode → ℕ → Instruction
 access store mode w =
@@ -138,21 +146,22 @@ plainOf store mode w = cond (eqb (nf w) 0) (access store mode w) I.Illegal
 
 -- vlm and vsm (section 8.4): unmasked, EEW 8, one field
 unfoldable pub maskOf : Bool → ℕ → Instruction
-maskOf store w = cond (eqb (vm w) 1 && (eqb (nf w) 0 && eqb (funct3 w) 0)) (access store MaskBytes w) I.Illegal
+maskOf store w = cond (eqb (vm w) 1 && eqb (nf w) 0 && eqb (funct3 w) 0) (access store MaskBytes w) I.Illegal
 
 -- whole registers (section 8.9): unmasked, 1, 2, 4 or 8 of them, stores with EEW 8
+abbrev pub wholeCount : ℕ → Bool
+wholeCount nf = eqb nf 0 || eqb nf 1 || eqb nf 3 || eqb nf 7
+
 unfoldable pub wholeOf : Bool → ℕ → Instruction
 wholeOf store w =
-    cond (eqb (vm w) 1
-    && ((eqb (nf w) 0 || (eqb (nf w) 1 || (eqb (nf w) 3 || eqb (nf w) 7)))
-    && (not store || eqb (funct3 w) 0)))
+    cond (eqb (vm w) 1 && wholeCount (nf w) && (not store || eqb (funct3 w) 0))
     (access store (Whole (nf w + 1)) w)
     I.Illegal
 
 -- lumop and sumop (section 8.2): 01011 mask, 01000 whole registers; 10000, fault-only-first, is left out
 unfoldable pub unitOf : Bool → ℕ → Instruction
 unitOf store w =
-    cond (eqb (rs2 w) 0b00000) (plainOf store Unit w)
+    cond (eqb (rs2 w) 0b00000) (plainOf store UnitStride w)
     (cond (eqb (rs2 w) 0b01000) (wholeOf store w)
     (cond (eqb (rs2 w) 0b01011) (maskOf store w)
     I.Illegal))
@@ -161,15 +170,15 @@ unitOf store w =
 unfoldable pub memoryOf : Bool → ℕ → Instruction
 memoryOf store w =
     cond (eqb (widthOf (funct3 w)) 0 || eqb (mew w) 1) I.Illegal
-    (cond (eqb (mop w) 0) (unitOf store w)
-    (cond (eqb (mop w) 2) (plainOf store (Strided (rs2 w)) w)
+    (cond (eqb (mop w) 0b00) (unitOf store w)
+    (cond (eqb (mop w) 0b10) (plainOf store (Strided (rs2 w)) w)
     (plainOf store (Indexed (rs2 w)) w)))
 
 -- ---- every word
 
 unfoldable pub decodeOf : ℕ → Instruction
 decodeOf w =
-    cond (eqb (opcode w) 0x57) (cond (eqb (funct3 w) 7) (settingOf w) (arithmeticOf w))
+    cond (eqb (opcode w) 0x57) (arithmeticOf w)
     (cond (eqb (opcode w) 0x07) (memoryOf false w)
     (cond (eqb (opcode w) 0x27) (memoryOf true w)
     I.Illegal))

@@ -1,11 +1,11 @@
 // Decode of every 32-bit word: the listing of section 20 of document 000, the setting forms of section 7 and the memory encodings of
 // section 8. What a word names is here; whether it is legal at a vtype is not.
 ghost use mathlib.Core.Path.{_≡_};
-ghost use mathlib.Core.Bool.{_||_};
-ghost use lib.Dec.{eqb};
 ghost use Rattle.decode.specs.declared.Entry.the-variants.{MergeOrMove};
-ghost use Rattle.decode.specs.Listing.{opmOf, vxunary0, vwxunary0, vmunary0, find, entryOf};
-ghost use Rattle.decode.specs.Word.{vmFits, sourceOf, resolvedOf, operationOf, namedOf, arithmeticOf, avlOf, settingOf, widthOf, access, plainOf, maskOf, wholeOf, unitOf, memoryOf, decodeOf};
+ghost use Rattle.decode.specs.Listing.{vxunary0, vwxunary0, vmunary0, find, entryOf};
+ghost use Rattle.decode.specs.Word.{opcode, rd, funct3, rs1, rs2, vm, funct6, mop, mew, nf, masked};
+ghost use Rattle.decode.specs.Word.{vmFits, sourceOf, resolvedOf, operationOf, namedOf, arithmeticOf, avlOf, settingBy, settingOf};
+ghost use Rattle.decode.specs.Word.{widthOf, access, plainOf, maskOf, wholeCount, wholeOf, unitOf, memoryOf, decodeOf};
 use operation::Op;
 use operation::V0;
 
@@ -66,7 +66,7 @@ pub struct Setting {
 
 // Addressing modes (section 8.2): the register of the stride or of the offsets, or how many whole registers.
 pub enum Mode {
-    Unit,
+    UnitStride,
     Strided(usize),
     Indexed(usize),
     MaskBytes,
@@ -103,194 +103,247 @@ pub enum Entry {
     Vxunary0,
     Vwxunary0,
     Vmunary0,
+    // a setting instruction, whatever funct6 is
+    Setting,
 }
 
-// ---- the listing
+// ---- the fields of a word
 
-fn opi(funct6: u32) -> Entry
-    ensures { λ r. ⌜ r ≡ entryOf 4 funct6 ⌝ }
+fn opcode(word: u32) -> u32
+    ensures { λ r. ⌜ r ≡ opcode word ⌝ }
+{
+    word % 0x80
+}
+
+// rd, or vd, or vs3
+fn rd(word: u32) -> u32
+    ensures { λ r. ⌜ r ≡ rd word ⌝ }
+{
+    word / 0x80 % 32
+}
+
+// funct3, or width
+fn funct3(word: u32) -> u32
+    ensures { λ r. ⌜ r ≡ funct3 word ⌝ }
+{
+    word / 0x1000 % 8
+}
+
+// rs1, or vs1, or a 5-bit immediate
+fn rs1(word: u32) -> u32
+    ensures { λ r. ⌜ r ≡ rs1 word ⌝ }
+{
+    word / 0x8000 % 32
+}
+
+// rs2, or vs2, or lumop and sumop
+fn rs2(word: u32) -> u32
+    ensures { λ r. ⌜ r ≡ rs2 word ⌝ }
+{
+    word / 0x10_0000 % 32
+}
+
+// 0 where v0 masks
+fn vm(word: u32) -> u32
+    ensures { λ r. ⌜ r ≡ vm word ⌝ }
+{
+    word / 0x200_0000 % 2
+}
+
+fn funct6(word: u32) -> u32
+    ensures { λ r. ⌜ r ≡ funct6 word ⌝ }
+{
+    word / 0x400_0000 % 64
+}
+
+// unit-stride, strided or indexed
+fn mop(word: u32) -> u32
+    ensures { λ r. ⌜ r ≡ mop word ⌝ }
+{
+    word / 0x400_0000 % 4
+}
+
+fn mew(word: u32) -> u32
+    ensures { λ r. ⌜ r ≡ mew word ⌝ }
+{
+    word / 0x1000_0000 % 2
+}
+
+// one less than the number of fields
+fn nf(word: u32) -> u32
+    ensures { λ r. ⌜ r ≡ nf word ⌝ }
+{
+    word / 0x2000_0000 % 8
+}
+
+fn masked(word: u32) -> bool
+    ensures { λ r. ⌜ r ≡ masked word ⌝ }
+{
+    vm(word) == 0
+}
+
+// ---- the listing: a column for each funct3
+
+// OPIVX: the whole of the OPI columns.
+fn opivx(funct6: u32) -> Entry
+    ensures { λ r. ⌜ r ≡ entryOf 0b100 funct6 ⌝ }
 {
     match funct6 {
-        0 => Entry::Operation(Op::Vadd),
-        2 => Entry::Operation(Op::Vsub),
-        3 => Entry::Operation(Op::Vrsub),
-        4 => Entry::Operation(Op::Vminu),
-        5 => Entry::Operation(Op::Vmin),
-        6 => Entry::Operation(Op::Vmaxu),
-        7 => Entry::Operation(Op::Vmax),
-        9 => Entry::Operation(Op::Vand),
-        10 => Entry::Operation(Op::Vor),
-        11 => Entry::Operation(Op::Vxor),
-        16 => Entry::Operation(Op::Vadc),
-        17 => Entry::Operation(Op::Vmadc),
-        18 => Entry::Operation(Op::Vsbc),
-        19 => Entry::Operation(Op::Vmsbc),
-        23 => Entry::MergeOrMove,
-        24 => Entry::Operation(Op::Vmseq),
-        25 => Entry::Operation(Op::Vmsne),
-        26 => Entry::Operation(Op::Vmsltu),
-        27 => Entry::Operation(Op::Vmslt),
-        28 => Entry::Operation(Op::Vmsleu),
-        29 => Entry::Operation(Op::Vmsle),
-        30 => Entry::Operation(Op::Vmsgtu),
-        31 => Entry::Operation(Op::Vmsgt),
-        32 => Entry::Operation(Op::Vsaddu),
-        33 => Entry::Operation(Op::Vsadd),
-        34 => Entry::Operation(Op::Vssubu),
-        35 => Entry::Operation(Op::Vssub),
-        37 => Entry::Operation(Op::Vsll),
-        39 => Entry::Operation(Op::Vsmul),
-        40 => Entry::Operation(Op::Vsrl),
-        41 => Entry::Operation(Op::Vsra),
-        42 => Entry::Operation(Op::Vssrl),
-        43 => Entry::Operation(Op::Vssra),
-        44 => Entry::Operation(Op::Vnsrl),
-        45 => Entry::Operation(Op::Vnsra),
-        46 => Entry::Operation(Op::Vnclipu),
-        47 => Entry::Operation(Op::Vnclip),
-        // vrgather, vrgatherei16, vslideup, vslidedown: left out
-        12..=15 => Entry::Reserved,
+        0b000000 => Entry::Operation(Op::Vadd),
+        0b000010 => Entry::Operation(Op::Vsub),
+        0b000011 => Entry::Operation(Op::Vrsub),
+        0b000100 => Entry::Operation(Op::Vminu),
+        0b000101 => Entry::Operation(Op::Vmin),
+        0b000110 => Entry::Operation(Op::Vmaxu),
+        0b000111 => Entry::Operation(Op::Vmax),
+        0b001001 => Entry::Operation(Op::Vand),
+        0b001010 => Entry::Operation(Op::Vor),
+        0b001011 => Entry::Operation(Op::Vxor),
+        0b010000 => Entry::Operation(Op::Vadc),
+        0b010001 => Entry::Operation(Op::Vmadc),
+        0b010010 => Entry::Operation(Op::Vsbc),
+        0b010011 => Entry::Operation(Op::Vmsbc),
+        0b010111 => Entry::MergeOrMove,
+        0b011000 => Entry::Operation(Op::Vmseq),
+        0b011001 => Entry::Operation(Op::Vmsne),
+        0b011010 => Entry::Operation(Op::Vmsltu),
+        0b011011 => Entry::Operation(Op::Vmslt),
+        0b011100 => Entry::Operation(Op::Vmsleu),
+        0b011101 => Entry::Operation(Op::Vmsle),
+        0b011110 => Entry::Operation(Op::Vmsgtu),
+        0b011111 => Entry::Operation(Op::Vmsgt),
+        0b100000 => Entry::Operation(Op::Vsaddu),
+        0b100001 => Entry::Operation(Op::Vsadd),
+        0b100010 => Entry::Operation(Op::Vssubu),
+        0b100011 => Entry::Operation(Op::Vssub),
+        0b100101 => Entry::Operation(Op::Vsll),
+        0b100111 => Entry::Operation(Op::Vsmul),
+        0b101000 => Entry::Operation(Op::Vsrl),
+        0b101001 => Entry::Operation(Op::Vsra),
+        0b101010 => Entry::Operation(Op::Vssrl),
+        0b101011 => Entry::Operation(Op::Vssra),
+        0b101100 => Entry::Operation(Op::Vnsrl),
+        0b101101 => Entry::Operation(Op::Vnsra),
+        0b101110 => Entry::Operation(Op::Vnclipu),
+        0b101111 => Entry::Operation(Op::Vnclip),
         _ => Entry::Reserved,
-    }
-}
-
-// Columns OPMVV and OPMVX together: they differ in the rows that opmvv and opmvx name.
-fn opm(funct6: u32) -> Entry
-    ensures { λ r. ⌜ r ≡ opmOf funct6 ⌝ }
-{
-    match funct6 {
-        // reductions: left out
-        0..=7 => Entry::Reserved,
-        8 => Entry::Operation(Op::Vaaddu),
-        9 => Entry::Operation(Op::Vaadd),
-        10 => Entry::Operation(Op::Vasubu),
-        11 => Entry::Operation(Op::Vasub),
-        16 => Entry::Vwxunary0,
-        18 => Entry::Vxunary0,
-        20 => Entry::Vmunary0,
-        24 => Entry::Operation(Op::Vmandn),
-        25 => Entry::Operation(Op::Vmand),
-        26 => Entry::Operation(Op::Vmor),
-        27 => Entry::Operation(Op::Vmxor),
-        28 => Entry::Operation(Op::Vmorn),
-        29 => Entry::Operation(Op::Vmnand),
-        30 => Entry::Operation(Op::Vmnor),
-        31 => Entry::Operation(Op::Vmxnor),
-        32 => Entry::Operation(Op::Vdivu),
-        33 => Entry::Operation(Op::Vdiv),
-        34 => Entry::Operation(Op::Vremu),
-        35 => Entry::Operation(Op::Vrem),
-        36 => Entry::Operation(Op::Vmulhu),
-        37 => Entry::Operation(Op::Vmul),
-        38 => Entry::Operation(Op::Vmulhsu),
-        39 => Entry::Operation(Op::Vmulh),
-        41 => Entry::Operation(Op::Vmadd),
-        43 => Entry::Operation(Op::Vnmsub),
-        45 => Entry::Operation(Op::Vmacc),
-        47 => Entry::Operation(Op::Vnmsac),
-        48 => Entry::Operation(Op::Vwaddu),
-        49 => Entry::Operation(Op::Vwadd),
-        50 => Entry::Operation(Op::Vwsubu),
-        51 => Entry::Operation(Op::Vwsub),
-        52 => Entry::Operation(Op::VwadduW),
-        53 => Entry::Operation(Op::VwaddW),
-        54 => Entry::Operation(Op::VwsubuW),
-        55 => Entry::Operation(Op::VwsubW),
-        56 => Entry::Operation(Op::Vwmulu),
-        58 => Entry::Operation(Op::Vwmulsu),
-        59 => Entry::Operation(Op::Vwmul),
-        60 => Entry::Operation(Op::Vwmaccu),
-        61 => Entry::Operation(Op::Vwmacc),
-        62 => Entry::Operation(Op::Vwmaccus),
-        63 => Entry::Operation(Op::Vwmaccsu),
-        _ => Entry::Reserved,
-    }
-}
-
-// A column of the listing: the others' rows are reserved in it.
-fn opivv(funct6: u32) -> Entry
-    ensures { λ r. ⌜ r ≡ entryOf 0 funct6 ⌝ }
-{
-    match funct6 {
-        3 => Entry::Reserved,
-        30 => Entry::Reserved,
-        31 => Entry::Reserved,
-        _ => opi(funct6),
-    }
-}
-
-fn opivi(funct6: u32) -> Entry
-    ensures { λ r. ⌜ r ≡ entryOf 3 funct6 ⌝ }
-{
-    match funct6 {
-        2 => Entry::Reserved,
-        4 => Entry::Reserved,
-        5 => Entry::Reserved,
-        6 => Entry::Reserved,
-        7 => Entry::Reserved,
-        18 => Entry::Reserved,
-        19 => Entry::Reserved,
-        26 => Entry::Reserved,
-        27 => Entry::Reserved,
-        34 => Entry::Reserved,
-        35 => Entry::Reserved,
-        39 => Entry::Reserved,
-        _ => opi(funct6),
     }
 }
 
 fn opmvv(funct6: u32) -> Entry
-    ensures { λ r. ⌜ r ≡ entryOf 2 funct6 ⌝ }
+    ensures { λ r. ⌜ r ≡ entryOf 0b010 funct6 ⌝ }
 {
     match funct6 {
-        62 => Entry::Reserved,
-        _ => opm(funct6),
-    }
-}
-
-fn opmvx(funct6: u32) -> Entry
-    ensures { λ r. ⌜ r ≡ entryOf 6 funct6 ⌝ }
-{
-    match funct6 {
-        16 => Entry::Reserved,
-        18 => Entry::Reserved,
-        20 => Entry::Reserved,
-        24 => Entry::Reserved,
-        25 => Entry::Reserved,
-        26 => Entry::Reserved,
-        27 => Entry::Reserved,
-        28 => Entry::Reserved,
-        29 => Entry::Reserved,
-        30 => Entry::Reserved,
-        31 => Entry::Reserved,
-        _ => opm(funct6),
-    }
-}
-
-// What funct3 and funct6 name.
-pub fn entry_of(funct3: u32, funct6: u32) -> Entry
-    ensures { λ r. ⌜ r ≡ entryOf funct3 funct6 ⌝ }
-{
-    match funct3 {
-        0 => opivv(funct6),
-        2 => opmvv(funct6),
-        3 => opivi(funct6),
-        4 => opi(funct6),
-        6 => opmvx(funct6),
+        0b001000 => Entry::Operation(Op::Vaaddu),
+        0b001001 => Entry::Operation(Op::Vaadd),
+        0b001010 => Entry::Operation(Op::Vasubu),
+        0b001011 => Entry::Operation(Op::Vasub),
+        0b010000 => Entry::Vwxunary0,
+        0b010010 => Entry::Vxunary0,
+        0b010100 => Entry::Vmunary0,
+        0b011000 => Entry::Operation(Op::Vmandn),
+        0b011001 => Entry::Operation(Op::Vmand),
+        0b011010 => Entry::Operation(Op::Vmor),
+        0b011011 => Entry::Operation(Op::Vmxor),
+        0b011100 => Entry::Operation(Op::Vmorn),
+        0b011101 => Entry::Operation(Op::Vmnand),
+        0b011110 => Entry::Operation(Op::Vmnor),
+        0b011111 => Entry::Operation(Op::Vmxnor),
+        0b100000 => Entry::Operation(Op::Vdivu),
+        0b100001 => Entry::Operation(Op::Vdiv),
+        0b100010 => Entry::Operation(Op::Vremu),
+        0b100011 => Entry::Operation(Op::Vrem),
+        0b100100 => Entry::Operation(Op::Vmulhu),
+        0b100101 => Entry::Operation(Op::Vmul),
+        0b100110 => Entry::Operation(Op::Vmulhsu),
+        0b100111 => Entry::Operation(Op::Vmulh),
+        0b101001 => Entry::Operation(Op::Vmadd),
+        0b101011 => Entry::Operation(Op::Vnmsub),
+        0b101101 => Entry::Operation(Op::Vmacc),
+        0b101111 => Entry::Operation(Op::Vnmsac),
+        0b110000 => Entry::Operation(Op::Vwaddu),
+        0b110001 => Entry::Operation(Op::Vwadd),
+        0b110010 => Entry::Operation(Op::Vwsubu),
+        0b110011 => Entry::Operation(Op::Vwsub),
+        0b110100 => Entry::Operation(Op::VwadduW),
+        0b110101 => Entry::Operation(Op::VwaddW),
+        0b110110 => Entry::Operation(Op::VwsubuW),
+        0b110111 => Entry::Operation(Op::VwsubW),
+        0b111000 => Entry::Operation(Op::Vwmulu),
+        0b111010 => Entry::Operation(Op::Vwmulsu),
+        0b111011 => Entry::Operation(Op::Vwmul),
+        0b111100 => Entry::Operation(Op::Vwmaccu),
+        0b111101 => Entry::Operation(Op::Vwmacc),
+        0b111111 => Entry::Operation(Op::Vwmaccsu),
         _ => Entry::Reserved,
     }
 }
 
+// OPIVV and OPIVI are OPIVX less some rows.
+fn opivv(funct6: u32) -> Entry
+    ensures { λ r. ⌜ r ≡ entryOf 0b000 funct6 ⌝ }
+{
+    match funct6 {
+        0b000011 => Entry::Reserved,
+        0b011110..=0b011111 => Entry::Reserved,
+        _ => opivx(funct6),
+    }
+}
+
+fn opivi(funct6: u32) -> Entry
+    ensures { λ r. ⌜ r ≡ entryOf 0b011 funct6 ⌝ }
+{
+    match funct6 {
+        0b000010 => Entry::Reserved,
+        0b000100..=0b000111 => Entry::Reserved,
+        0b010010..=0b010011 => Entry::Reserved,
+        0b011010..=0b011011 => Entry::Reserved,
+        0b100010..=0b100011 => Entry::Reserved,
+        0b100111 => Entry::Reserved,
+        _ => opivx(funct6),
+    }
+}
+
+// OPMVX is OPMVV less the rows that have no scalar, and with one of its own.
+fn opmvx(funct6: u32) -> Entry
+    ensures { λ r. ⌜ r ≡ entryOf 0b110 funct6 ⌝ }
+{
+    match funct6 {
+        0b010000 => Entry::Reserved,
+        0b010010 => Entry::Reserved,
+        0b010100 => Entry::Reserved,
+        0b011000..=0b011111 => Entry::Reserved,
+        0b111110 => Entry::Operation(Op::Vwmaccus),
+        _ => opmvv(funct6),
+    }
+}
+
+// What funct3 and funct6 name (section 11.1).
+fn entry_of(funct3: u32, funct6: u32) -> Entry
+    ensures { λ r. ⌜ r ≡ entryOf funct3 funct6 ⌝ }
+{
+    match funct3 {
+        0b000 => opivv(funct6),
+        0b010 => opmvv(funct6),
+        0b011 => opivi(funct6),
+        0b100 => opivx(funct6),
+        0b110 => opmvx(funct6),
+        0b111 => Entry::Setting,
+        _ => Entry::Reserved,
+    }
+}
+
+// The tables below the listing, by the vs1 field: VXUNARY0, VWXUNARY0, VMUNARY0.
 fn extension(vs1: u32) -> Entry
     ensures { λ r. ⌜ r ≡ find vxunary0 vs1 ⌝ }
 {
     match vs1 {
-        2 => Entry::Operation(Op::VzextVf8),
-        3 => Entry::Operation(Op::VsextVf8),
-        4 => Entry::Operation(Op::VzextVf4),
-        5 => Entry::Operation(Op::VsextVf4),
-        6 => Entry::Operation(Op::VzextVf2),
-        7 => Entry::Operation(Op::VsextVf2),
+        0b00010 => Entry::Operation(Op::VzextVf8),
+        0b00011 => Entry::Operation(Op::VsextVf8),
+        0b00100 => Entry::Operation(Op::VzextVf4),
+        0b00101 => Entry::Operation(Op::VsextVf4),
+        0b00110 => Entry::Operation(Op::VzextVf2),
+        0b00111 => Entry::Operation(Op::VsextVf2),
         _ => Entry::Reserved,
     }
 }
@@ -299,8 +352,8 @@ fn to_scalar(vs1: u32) -> Entry
     ensures { λ r. ⌜ r ≡ find vwxunary0 vs1 ⌝ }
 {
     match vs1 {
-        16 => Entry::OnMask(MaskOp::Vcpop),
-        17 => Entry::OnMask(MaskOp::Vfirst),
+        0b10000 => Entry::OnMask(MaskOp::Vcpop),
+        0b10001 => Entry::OnMask(MaskOp::Vfirst),
         _ => Entry::Reserved,
     }
 }
@@ -309,60 +362,65 @@ fn set_first(vs1: u32) -> Entry
     ensures { λ r. ⌜ r ≡ find vmunary0 vs1 ⌝ }
 {
     match vs1 {
-        1 => Entry::OnMask(MaskOp::Vmsbf),
-        2 => Entry::OnMask(MaskOp::Vmsof),
-        3 => Entry::OnMask(MaskOp::Vmsif),
+        0b00001 => Entry::OnMask(MaskOp::Vmsbf),
+        0b00010 => Entry::OnMask(MaskOp::Vmsof),
+        0b00011 => Entry::OnMask(MaskOp::Vmsif),
         _ => Entry::Reserved,
     }
 }
 
 // ---- arithmetic
 
+// vmerge has vm 0; vmv has vm 1 and vs2 0 (section 12.16).
 fn merge_or_move(word: u32) -> Entry
     ensures { λ r. ⌜ r ≡ resolvedOf MergeOrMove word ⌝ }
 {
-    if word / 0x200_0000 % 2 == 0 {
+    if masked(word) {
         return Entry::Operation(Op::Vmerge);
     }
-    if word / 0x10_0000 % 32 == 0 {
+    if rs2(word) == 0 {
         return Entry::Operation(Op::Vmv);
     }
     Entry::Reserved
 }
 
+// The entries that further fields decide.
 fn resolved(entry: Entry, word: u32) -> Entry
     ensures { λ r. ⌜ r ≡ resolvedOf entry word ⌝ }
 {
     match entry {
         Entry::MergeOrMove => merge_or_move(word),
-        Entry::Vxunary0 => extension(word / 0x8000 % 32),
-        Entry::Vwxunary0 => to_scalar(word / 0x8000 % 32),
-        Entry::Vmunary0 => set_first(word / 0x8000 % 32),
+        Entry::Vxunary0 => extension(rs1(word)),
+        Entry::Vwxunary0 => to_scalar(rs1(word)),
+        Entry::Vmunary0 => set_first(rs1(word)),
         Entry::Reserved => entry,
         Entry::Operation(_) => entry,
         Entry::OnMask(_) => entry,
+        Entry::Setting => entry,
     }
 }
 
+// What the vs1 field is, by funct3.
 fn source_of(word: u32) -> Source
     ensures { λ r. ⌜ r ≡ sourceOf word ⌝ }
 {
-    let field = word / 0x8000 % 32;
-    match word / 4096 % 8 {
-        3 => Source::Immediate(field as u64),
-        4 => Source::Scalar(field as usize),
-        6 => Source::Scalar(field as usize),
+    let field = rs1(word);
+    match funct3(word) {
+        0b011 => Source::Immediate(field as u64),
+        0b100 => Source::Scalar(field as usize),
+        0b110 => Source::Scalar(field as usize),
         _ => Source::Vector(field as usize),
     }
 }
 
+// The vm bits that an operation has.
 fn vm_fits(v0: V0, vm: u32) -> bool
     ensures { λ r. ⌜ r ≡ vmFits v0 vm ⌝ }
 {
     match v0 {
         V0::Masks => true,
-        V0::MaybeCarry => true,
-        V0::Carry => vm == 0,
+        V0::MaybeOperand => true,
+        V0::Operand => vm == 0,
         V0::Unused => vm == 1,
     }
 }
@@ -370,21 +428,77 @@ fn vm_fits(v0: V0, vm: u32) -> bool
 fn operation_of(op: Op, word: u32) -> Instruction
     ensures { λ r. ⌜ r ≡ operationOf op word ⌝ }
 {
-    let vm = word / 0x200_0000 % 2;
+    let vm = vm(word);
     let shape = operation::shape_of(op);
     let v0 = shape.v0;
     if vm_fits(v0, vm) {
         let source = source_of(word);
         return Instruction::Arithmetic(Arithmetic {
             op,
-            vd: (word / 128 % 32) as usize,
-            vs2: (word / 0x10_0000 % 32) as usize,
+            vd: rd(word) as usize,
+            vs2: rs2(word) as usize,
             source,
             masked: vm == 0,
         });
     }
     Instruction::Illegal
 }
+
+// ---- setting instructions
+
+// Section 7.2.
+fn avl_of(word: u32) -> AvlSource
+    ensures { λ r. ⌜ r ≡ avlOf word ⌝ }
+{
+    let rs1 = rs1(word) as usize;
+    if rs1 == 0 {
+        if rd(word) == 0 {
+            return AvlSource::Kept;
+        }
+        return AvlSource::Largest;
+    }
+    AvlSource::Register(rs1)
+}
+
+fn setting_by(word: u32, avl: AvlSource, vtype: TypeSource) -> Instruction
+    ensures { λ r. ⌜ r ≡ settingBy word avl vtype ⌝ }
+{
+    Instruction::Setting(Setting {
+        rd: rd(word) as usize,
+        avl,
+        vtype,
+    })
+}
+
+// vsetvli has bit 31 clear, vsetivli bits 31 and 30 set, vsetvl bits 31 to 25 1000000.
+fn setting_of(word: u32) -> Instruction
+    ensures { λ r. ⌜ r ≡ settingOf word ⌝ }
+{
+    if word / 0x8000_0000 == 0 {
+        return setting_by(
+            word,
+            avl_of(word),
+            TypeSource::Given((word / 0x10_0000 % 2048) as u64),
+        );
+    }
+    if word / 0x4000_0000 == 0b11 {
+        return setting_by(
+            word,
+            AvlSource::Number(rs1(word) as u64),
+            TypeSource::Given((word / 0x10_0000 % 1024) as u64),
+        );
+    }
+    if word / 0x200_0000 == 0b1000000 {
+        return setting_by(
+            word,
+            avl_of(word),
+            TypeSource::InRegister(rs2(word) as usize),
+        );
+    }
+    Instruction::Illegal
+}
+
+// ---- opcode 0x57
 
 fn named(entry: Entry, word: u32) -> Instruction
     ensures { λ r. ⌜ r ≡ namedOf entry word ⌝ }
@@ -393,10 +507,11 @@ fn named(entry: Entry, word: u32) -> Instruction
         Entry::Operation(op) => operation_of(op, word),
         Entry::OnMask(op) => Instruction::Mask(MaskInstruction {
             op,
-            rd: (word / 128 % 32) as usize,
-            vs2: (word / 0x10_0000 % 32) as usize,
-            masked: word / 0x200_0000 % 2 == 0,
+            rd: rd(word) as usize,
+            vs2: rs2(word) as usize,
+            masked: masked(word),
         }),
+        Entry::Setting => setting_of(word),
         Entry::Reserved => Instruction::Illegal,
         Entry::MergeOrMove => Instruction::Illegal,
         Entry::Vxunary0 => Instruction::Illegal,
@@ -408,63 +523,21 @@ fn named(entry: Entry, word: u32) -> Instruction
 fn arithmetic_of(word: u32) -> Instruction
     ensures { λ r. ⌜ r ≡ arithmeticOf word ⌝ }
 {
-    let entry = entry_of(word / 4096 % 8, word / 0x400_0000 % 64);
+    let entry = entry_of(funct3(word), funct6(word));
     named(resolved(entry, word), word)
-}
-
-// ---- setting
-
-fn avl_of(word: u32) -> AvlSource
-    ensures { λ r. ⌜ r ≡ avlOf word ⌝ }
-{
-    let rs1 = (word / 0x8000 % 32) as usize;
-    if rs1 == 0 {
-        if word / 128 % 32 == 0 {
-            return AvlSource::Kept;
-        }
-        return AvlSource::Largest;
-    }
-    AvlSource::Register(rs1)
-}
-
-fn setting_of(word: u32) -> Instruction
-    ensures { λ r. ⌜ r ≡ settingOf word ⌝ }
-{
-    let rd = (word / 128 % 32) as usize;
-    if word / 0x8000_0000 == 0 {
-        return Instruction::Setting(Setting {
-            rd,
-            avl: avl_of(word),
-            vtype: TypeSource::Given((word / 0x10_0000 % 2048) as u64),
-        });
-    }
-    if word / 0x4000_0000 == 3 {
-        return Instruction::Setting(Setting {
-            rd,
-            avl: AvlSource::Number((word / 0x8000 % 32) as u64),
-            vtype: TypeSource::Given((word / 0x10_0000 % 1024) as u64),
-        });
-    }
-    if word / 0x200_0000 == 64 {
-        return Instruction::Setting(Setting {
-            rd,
-            avl: avl_of(word),
-            vtype: TypeSource::InRegister((word / 0x10_0000 % 32) as usize),
-        });
-    }
-    Instruction::Illegal
 }
 
 // ---- loads and stores
 
-fn width_of(width: u32) -> u64
-    ensures { λ r. ⌜ r ≡ widthOf width ⌝ }
+// EEW by the width field (section 8.3); 0 for the widths of scalar floating point.
+fn width_of(word: u32) -> u64
+    ensures { λ r. ⌜ r ≡ widthOf (funct3 word) ⌝ }
 {
-    match width {
-        0 => 8,
-        5 => 16,
-        6 => 32,
-        7 => 64,
+    match funct3(word) {
+        0b000 => 8,
+        0b101 => 16,
+        0b110 => 32,
+        0b111 => 64,
         _ => 0,
     }
 }
@@ -472,111 +545,87 @@ fn width_of(width: u32) -> u64
 fn access_of(store: bool, mode: Mode, word: u32) -> Instruction
     ensures { λ r. ⌜ r ≡ access store mode word ⌝ }
 {
-    let eew = width_of(word / 4096 % 8);
     Instruction::Memory(Access {
         store,
         mode,
-        eew,
-        vd: (word / 128 % 32) as usize,
-        rs1: (word / 0x8000 % 32) as usize,
-        masked: word / 0x200_0000 % 2 == 0,
+        eew: width_of(word),
+        vd: rd(word) as usize,
+        rs1: rs1(word) as usize,
+        masked: masked(word),
     })
 }
 
+// One field: more are segments, left out.
 fn plain_of(store: bool, mode: Mode, word: u32) -> Instruction
     ensures { λ r. ⌜ r ≡ plainOf store mode word ⌝ }
 {
-    if word / 0x2000_0000 % 8 == 0 {
+    if nf(word) == 0 {
         return access_of(store, mode, word);
     }
     Instruction::Illegal
 }
 
+// vlm and vsm (section 8.4).
 fn mask_of(store: bool, word: u32) -> Instruction
     ensures { λ r. ⌜ r ≡ maskOf store word ⌝ }
 {
-    if word / 0x200_0000 % 2 != 1 {
-        return Instruction::Illegal;
+    if (vm(word) == 1) & (nf(word) == 0) & (funct3(word) == 0) {
+        return access_of(store, Mode::MaskBytes, word);
     }
-    if word / 0x2000_0000 % 8 != 0 {
-        return Instruction::Illegal;
-    }
-    if word / 4096 % 8 != 0 {
-        return Instruction::Illegal;
-    }
-    access_of(store, Mode::MaskBytes, word)
+    Instruction::Illegal
 }
 
 // 1, 2, 4 or 8 registers.
 fn whole_count(nf: u32) -> bool
-    ensures { λ r. ⌜ r ≡ (eqb nf 0 || (eqb nf 1 || (eqb nf 3 || eqb nf 7))) ⌝ }
+    ensures { λ r. ⌜ r ≡ wholeCount nf ⌝ }
 {
-    match nf {
-        0 => true,
-        1 => true,
-        3 => true,
-        7 => true,
-        _ => false,
-    }
+    (nf == 0) | (nf == 1) | (nf == 3) | (nf == 7)
 }
 
+// Whole registers (section 8.9).
 fn whole_of(store: bool, word: u32) -> Instruction
     ensures { λ r. ⌜ r ≡ wholeOf store word ⌝ }
 {
-    let nf = word / 0x2000_0000 % 8;
-    if word / 0x200_0000 % 2 != 1 {
-        return Instruction::Illegal;
+    let nf = nf(word);
+    if (vm(word) == 1) & whole_count(nf) & (!store | (funct3(word) == 0)) {
+        return access_of(store, Mode::Whole((nf + 1) as usize), word);
     }
-    if !whole_count(nf) {
-        return Instruction::Illegal;
-    }
-    if store {
-        if word / 4096 % 8 != 0 {
-            return Instruction::Illegal;
-        }
-    }
-    access_of(store, Mode::Whole((nf + 1) as usize), word)
+    Instruction::Illegal
 }
 
+// lumop and sumop (section 8.2).
 fn unit_of(store: bool, word: u32) -> Instruction
     ensures { λ r. ⌜ r ≡ unitOf store word ⌝ }
 {
-    match word / 0x10_0000 % 32 {
-        0 => plain_of(store, Mode::Unit, word),
-        8 => whole_of(store, word),
-        11 => mask_of(store, word),
+    match rs2(word) {
+        0b00000 => plain_of(store, Mode::UnitStride, word),
+        0b01000 => whole_of(store, word),
+        0b01011 => mask_of(store, word),
         _ => Instruction::Illegal,
     }
 }
 
+// mop and mew (sections 8.2, 8.3).
 fn memory_of(store: bool, word: u32) -> Instruction
     ensures { λ r. ⌜ r ≡ memoryOf store word ⌝ }
 {
-    if width_of(word / 4096 % 8) == 0 {
+    if (width_of(word) == 0) | (mew(word) == 1) {
         return Instruction::Illegal;
     }
-    if word / 0x1000_0000 % 2 == 1 {
-        return Instruction::Illegal;
-    }
-    let field = (word / 0x10_0000 % 32) as usize;
-    match word / 0x400_0000 % 4 {
-        0 => unit_of(store, word),
-        2 => plain_of(store, Mode::Strided(field), word),
+    let field = rs2(word) as usize;
+    match mop(word) {
+        0b00 => unit_of(store, word),
+        0b10 => plain_of(store, Mode::Strided(field), word),
         _ => plain_of(store, Mode::Indexed(field), word),
     }
 }
 
-// Every word.
+// What a word names: one instruction, or none that is legal.
 pub fn decode(word: u32) -> Instruction
     ensures { λ r. ⌜ r ≡ decodeOf word ⌝ }
 {
-    match word % 128 {
-        0x57 => {
-            if word / 4096 % 8 == 7 {
-                return setting_of(word);
-            }
-            arithmetic_of(word)
-        }
+    match opcode(word) {
+        0x57 => arithmetic_of(word),
         0x07 => memory_of(false, word),
         0x27 => memory_of(true, word),
         _ => Instruction::Illegal,

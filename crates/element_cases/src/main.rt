@@ -43,7 +43,7 @@ fn run(op: Op, line: &[u8]) {
     let d = hexadecimal::number(line, 48, 16);
     let c = hexadecimal::number(line, 65, 1) % 2;
     let rm = fixed::vxrm_of(hexadecimal::number(line, 12, 1));
-    let e = element::element(op, sew, rm, a, b, d, c);
+    let e = alu::element(op, sew, rm, a, b, d, c);
     io::print_hex(1, e.value, 16);
     if e.saturates {
         io::write_all(1, b" 1\n");

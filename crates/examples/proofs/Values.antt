@@ -7,20 +7,22 @@ use Rattle.control.specs.Vtype.{vlmaxOf, supportedOf}
 use Rattle.control.specs.Control.{setOf}
 use Rattle.fixed.specs.Round.{increment, roundoffUnsigned, roundoffSigned, clipUnsigned, clipSigned}
 use Rattle.fixed.specs.Fixed.{vaadd, vasub, vsmul, vnclipu}
-use Rattle.turns.specs.Turn.{turn, clean, written}
+use Rattle.turn_theory.specs.Turn.{turn, clean, written}
 use Rattle.control.specs.Control.{possibleOf, typedWellOf}
 use Rattle.refusal.specs.Refusal.{refusalOf}
 use Rattle.decode.specs.Listing.{entryOf, find, listing}
 use Rattle.decode.specs.Word.{decodeOf, arithmeticOf, resolvedOf, sourceOf, settingOf, avlOf}
 use Rattle.group.specs.Group.{placedOf, emul8Of, mayOverlapOf, sparesV0}
-use Rattle.elementwise.specs.Elementwise.{legalOf, computingOf, readAt, readFits, secondOf}
-use Rattle.machine.specs.OneTurn.{settingResult}
-use Rattle.machine.specs.Machine.{turnOf, refusalAt, legalAt, endOf, resultAt}
+use Rattle.plan.specs.Plan.{readAt, secondOf, shapedOf, planOf}
+use Rattle.plan.specs.Legal.{readFits, operandsFit, elementsLegal, oneTurnLegal, legalOf}
+use Rattle.machine.specs.OneTurn.{settingResult, oneTurnResult}
+use Rattle.machine.specs.Machine.{turnOf, rejectionAt}
 use Rattle.examples.specs.Values.{addedAt, Values, Changes}
 
 -- a turn that finishes, and an illegal one: no machine that answers every word alike meets the definition
 pub two-answers : map addedAt (15 ∷ 16 ∷ []) ≡ (Finished ∷ Illegal ∷ [])
-unfolding turnOf turn decodeOf arithmeticOf resolvedOf sourceOf entryOf find listing refusalAt refusalOf possibleOf typedWellOf supportedOf vlmaxOf legalAt legalOf computingOf secondOf readAt readFits placedOf emul8Of mayOverlapOf sparesV0 endOf clean
+unfolding turnOf turn clean decodeOf arithmeticOf resolvedOf sourceOf entryOf find listing rejectionAt refusalOf possibleOf typedWellOf
+    supportedOf vlmaxOf planOf shapedOf secondOf readAt legalOf elementsLegal operandsFit readFits placedOf emul8Of mayOverlapOf sparesV0
 two-answers = refl
 
 pub values : Values
@@ -45,5 +47,6 @@ values = record {
 }
 
 pub changes : Changes
-unfolding turnOf turn decodeOf refusalAt refusalOf possibleOf typedWellOf supportedOf vlmaxOf legalAt endOf clean resultAt settingOf avlOf settingResult setOf written
+unfolding turnOf turn clean written decodeOf arithmeticOf resolvedOf entryOf settingOf avlOf rejectionAt refusalOf possibleOf
+    typedWellOf supportedOf vlmaxOf planOf legalOf oneTurnLegal oneTurnResult settingResult setOf
 changes = refl

@@ -9,14 +9,14 @@ use Rattle.width.specs.Width.{flag}
 use Rattle.control.specs.Board.{base}
 use Rattle.control.specs.declared.Avl.the-variants.{To}
 use Rattle.control.specs.Vtype.{vill, vlmaxOf, supportedOf}
-use Rattle.control.specs.Control.{reset, setOf}
+use Rattle.control.specs.Control.{reset, withVtype, withVstart, setOf}
 use Rattle.fixed.specs.declared.Element.{Element}
 use Rattle.fixed.specs.declared.Vxrm.{Vxrm}
 use Rattle.fixed.specs.declared.Vxrm.the-variants.{Rnu, Rne, Rdn, Rod}
 use Rattle.fixed.specs.Round.{exact, saturated}
 use Rattle.operation.specs.declared.Op.{Op}
 use Rattle.operation.specs.declared.Op.the-variants.{Vaadd, Vasub, Vsmul, Vnclipu, Vdiv, Vrem}
-use Rattle.element.specs.Element.{elementOf}
+use Rattle.alu.specs.Element.{elementOf}
 use Rattle.machine.specs.State.{State}
 use Rattle.machine.specs.Machine.{turnOf}
 
@@ -26,7 +26,7 @@ minus n = 256 - n
 
 -- an operation at e8, in a rounding mode
 abbrev pub at8 : Op → ℕ → ℕ → Vxrm → Element
-at8 op vs2 vs1 rm = elementOf op 8 rm vs2 vs1 0 0
+at8 op vs2 vs1 rm = elementOf 8 rm vs2 vs1 0 0 op
 
 -- in all four modes, in the order rnu, rne, rdn, rod
 abbrev pub modes : (Vxrm → Element) → List Element
@@ -44,7 +44,7 @@ e64At vstart = record {
   scalars = replicate 32 0;
   memory = [];
   rights = replicate 256 0;
-  control = record { vtype = 0x18; vl = 2; vstart = vstart; vxrm = 0; vxsat = 0 };
+  control = withVstart (withVtype reset 0x18 2) vstart;
 }
 
 -- the answer to an uncut turn of vadd.vv v1, v2, v3

@@ -16,9 +16,11 @@ cond-lt true x y n h l = h
 cond-lt false x y n h l = l
 
 -- of each clip: the two bounds, and what wraps
-clip-lt : (t u : Bool) (w x y : ℕ) (z : ℤ) → x < 2 ^ w → y < 2 ^ w → cond t (saturated x) (cond u (saturated y) (exact (wrap w z))) .value < 2 ^ w
+clip-lt : (t u : Bool) (w x y : ℕ) (z : ℤ) → x < 2 ^ w → y < 2 ^ w
+    → cond t (saturated x) (cond u (saturated y) (exact (wrap w z))) .value < 2 ^ w
 clip-lt t u w x y z h l =
-    cond-lt t (saturated x) (cond u (saturated y) (exact (wrap w z))) (2 ^ w) h (cond-lt u (saturated y) (exact (wrap w z)) (2 ^ w) l (wrap-lt w z))
+    cond-lt t (saturated x) (cond u (saturated y) (exact (wrap w z))) (2 ^ w) h
+    (cond-lt u (saturated y) (exact (wrap w z)) (2 ^ w) l (wrap-lt w z))
 
 pub clip-unsigned-lt : (w : ℕ) (z : ℤ) → clipUnsigned w z .value < 2 ^ w
 unfolding clipUnsigned

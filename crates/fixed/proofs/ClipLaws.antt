@@ -42,7 +42,9 @@ leZ-suc h (pos n) = refl
 leZ-suc h (negsuc n) = refl
 
 -- the clip by two tests
-by-tests : (w m : ℕ) (z : ℤ) → 1 ≤ w → m + 1 ≡ 2 ^ w → clipSigned w z ≡ cond (ltZ z (negsuc (m / 2))) (saturated (m / 2 + 1)) (cond (ltZ (pos (m / 2)) z) (saturated (m / 2)) (exact (wrap w z)))
+by-tests : (w m : ℕ) (z : ℤ) → 1 ≤ w → m + 1 ≡ 2 ^ w
+    → clipSigned w z
+    ≡ cond (ltZ z (negsuc (m / 2))) (saturated (m / 2 + 1)) (cond (ltZ (pos (m / 2)) z) (saturated (m / 2)) (exact (wrap w z)))
 unfolding clipSigned
 by-tests w m z h e =
     let d : 2 ^ (w - 1) ≡ suc (m / 2) = omega (arith, half h) in
@@ -56,11 +58,13 @@ module _ (w m p n : ℕ) (some : 1 ≤ w) (ones : m + 1 ≡ 2 ^ w) where
 
   pub diff-over : n + m / 2 < p → saturated (m / 2) ≡ clipSigned w (subℕ p n)
   diff-over h =
-      rw (by-tests w m (subℕ p n) some ones, negsuc-diff (m / 2), nlt-diff p n 0 (suc (m / 2)) (omega arith), pos-diff (m / 2), lt-diff (m / 2) 0 p n (omega arith))
+      let below = nlt-diff p n 0 (suc (m / 2)) (omega arith) in
+      rw (by-tests w m (subℕ p n) some ones, negsuc-diff (m / 2), below, pos-diff (m / 2), lt-diff (m / 2) 0 p n (omega arith))
 
   pub diff-within : n ≤ p + (m / 2 + 1) → p ≤ n + m / 2 → exact (wrap w (subℕ p n)) ≡ clipSigned w (subℕ p n)
   diff-within h l =
-      rw (by-tests w m (subℕ p n) some ones, negsuc-diff (m / 2), nlt-diff p n 0 (suc (m / 2)) (omega arith), pos-diff (m / 2), nlt-diff (m / 2) 0 p n (omega arith))
+      let below = nlt-diff p n 0 (suc (m / 2)) (omega arith) in
+      rw (by-tests w m (subℕ p n) some ones, negsuc-diff (m / 2), below, pos-diff (m / 2), nlt-diff (m / 2) 0 p n (omega arith))
 
 -- ---- an i64, by the tests of the code
 

@@ -96,10 +96,12 @@ pub unsigned-none : (rm : Vxrm) (v d : ℕ) → d ≡ 0 → v ≡ roundoffUnsign
 unfolding roundoffUnsigned increment
 unsigned-none rm v d e = rw (e, div-one v, add-zero v)
 
-module _ (rm : Vxrm) (v d lost i : ℕ) (some : d ≡ 0 → ⊥) (fits : Fits w64 v) (lost-is : lost ≡ v % 2 ^ d) (i-is : i ≡ increment rm d (v / 2 ^ d % 2) lost) where
+module _ (rm : Vxrm) (v d lost i : ℕ) (some : d ≡ 0 → ⊥) (fits : Fits w64 v) (lost-is : lost ≡ v % 2 ^ d)
+    (i-is : i ≡ increment rm d (v / 2 ^ d % 2) lost) where
   pub unsigned-fits : Fits w64 (v / 2 ^ d + i)
   unsigned-fits =
-      record { fits = omega (arith, shifted-half v d some, increment-le rm d (v / 2 ^ d % 2) lost (omega (arith, mod-lt v (pow-pos d))), fits .fits) }
+      let e = increment-le rm d (v / 2 ^ d % 2) lost (omega (arith, mod-lt v (pow-pos d))) in
+      record { fits = omega (arith, shifted-half v d some, e, fits .fits) }
 
   pub unsigned-is : v / 2 ^ d + i ≡ roundoffUnsigned rm v d
   unfolding roundoffUnsigned
@@ -129,7 +131,8 @@ mag-add : (z : ℤ) (i : ℕ) → mag (z +ℤ pos i) ≤ mag z + i
 mag-add (pos n) i = omega arith
 mag-add (negsuc n) i = mag-cond (ltb i (suc n)) (suc n - suc i) (i - suc n) (n + i) (omega arith) (omega arith)
 
-module _ (rm : Vxrm) (z : ℤ) (d last lost i : ℕ) (some : d ≡ 0 → ⊥) (fits : SFits w64 z) (last-is : last ≡ wrap 1 (back (shrZ (back z) (2 ^ d)))) (lost-is : lost ≡ wrap d (back z)) (i-is : i ≡ increment rm d last lost) where
+module _ (rm : Vxrm) (z : ℤ) (d last lost i : ℕ) (some : d ≡ 0 → ⊥) (fits : SFits w64 z)
+    (last-is : last ≡ wrap 1 (back (shrZ (back z) (2 ^ d)))) (lost-is : lost ≡ wrap d (back z)) (i-is : i ≡ increment rm d last lost) where
   at-most-one : i ≤ 1
   at-most-one = omega (arith, increment-le rm d last lost (subst⁻¹ (λ (x : ℕ). x < 2 ^ d) lost-is (wrap-lt d (back z))))
 
@@ -138,10 +141,13 @@ module _ (rm : Vxrm) (z : ℤ) (d last lost i : ℕ) (some : d ≡ 0 → ⊥) (f
 
   -- at least one bit is shifted out
   sum-fits : SFits w64 (shrZ z (2 ^ d) +ℤ pos i)
-  sum-fits = record { sfits = omega (arith, mag-add (shrZ z (2 ^ d)) i, mag-shr-is z (2 ^ d), shifted-half (mag z) d some, at-most-one, fits .sfits) }
+  sum-fits =
+      let e = shifted-half (mag z) d some in
+      record { sfits = omega (arith, mag-add (shrZ z (2 ^ d)) i, mag-shr-is z (2 ^ d), e, at-most-one, fits .sfits) }
 
   pub signed-fits : SFits w64 (back (shrZ (back z) (2 ^ d)) +ℤ toZ w64 i)
-  signed-fits = subst₂ (λ (x y : ℤ). SFits w64 (x +ℤ y)) (sym (shr-back z (2 ^ d) fits)) (sym (toZ-pos w64 (increment-fits .sfits))) sum-fits
+  signed-fits =
+      subst₂ (λ (x y : ℤ). SFits w64 (x +ℤ y)) (sym (shr-back z (2 ^ d) fits)) (sym (toZ-pos w64 (increment-fits .sfits))) sum-fits
 
   pub signed-is : back (back (shrZ (back z) (2 ^ d)) +ℤ toZ w64 i) ≡ roundoffSigned rm z d
   unfolding roundoffSigned

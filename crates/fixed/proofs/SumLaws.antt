@@ -30,8 +30,10 @@ high w m x e h = signed-high w x (omega arith)
 complement : (w m b : ℕ) → 1 ≤ w → m + 1 ≡ 2 ^ w → b < 2 ^ w → negℤ (signed w b) ≡ signed w (m - b) +ℤ pos 1
 complement w m b some ones lb = go (decLe b (m / 2))
   where
-    at : (i j : ℕ) → i + j ≡ 2 ^ w → signed w b ≡ subℕ b i → signed w (m - b) ≡ subℕ (m - b) j → negℤ (signed w b) ≡ signed w (m - b) +ℤ pos 1
-    at i j e p q = ap negℤ p ∙ neg-diff b i ∙ diff-eq i b (m - b + 1) (j + 0) (omega arith) ∙ sym (ap₂ _+ℤ_ q (pos-diff 1) ∙ add-diff (m - b) j 1 0)
+    at : (i j : ℕ) → i + j ≡ 2 ^ w → signed w b ≡ subℕ b i → signed w (m - b) ≡ subℕ (m - b) j
+        → negℤ (signed w b) ≡ signed w (m - b) +ℤ pos 1
+    at i j e p q =
+        ap negℤ p ∙ neg-diff b i ∙ diff-eq i b (m - b + 1) (j + 0) (omega arith) ∙ sym (ap₂ _+ℤ_ q (pos-diff 1) ∙ add-diff (m - b) j 1 0)
 
     go : Dec (b ≤ m / 2) → negℤ (signed w b) ≡ signed w (m - b) +ℤ pos 1
     go (yes h) = at 0 (2 ^ w) (omega arith) (low w m b ones h) (high w m (m - b) ones (omega (arith, half some)))
@@ -68,7 +70,8 @@ module _ {w m a y c s : ℕ} {z : ℤ} (t : Sum w m a y c s z) where
 
   over : a ≤ m / 2 → y ≤ m / 2 → m / 2 < s → saturated (m / 2) ≡ clipSigned w z
   over ha hy hs =
-      diff-over w m (a + y + c) (0 + 0) (t .some) (t .ones) (omega (arith, up ha hy)) ∙ taking 0 0 (low w m a (t .ones) ha) (low w m y (t .ones) hy)
+      diff-over w m (a + y + c) (0 + 0) (t .some) (t .ones) (omega (arith, up ha hy))
+      ∙ taking 0 0 (low w m a (t .ones) ha) (low w m y (t .ones) hy)
 
   under : m / 2 < a → m / 2 < y → s ≤ m / 2 → saturated (m / 2 + 1) ≡ clipSigned w z
   under ha hy hs =
@@ -78,13 +81,15 @@ module _ {w m a y c s : ℕ} {z : ℤ} (t : Sum w m a y c s z) where
   within : (a ≤ m / 2 → y ≤ m / 2 → s ≤ m / 2) → (m / 2 < a → m / 2 < y → m / 2 < s) → exact s ≡ clipSigned w z
   within f g = go (decLe a (m / 2)) (decLe y (m / 2))
     where
-      at : (i j k : ℕ) → signed w a ≡ subℕ a i → signed w y ≡ subℕ y j → i + j ≡ k * 2 ^ w → i + j ≤ a + y + c + (m / 2 + 1) → a + y + c ≤ i + j + m / 2 → exact s ≡ clipSigned w z
+      at : (i j k : ℕ) → signed w a ≡ subℕ a i → signed w y ≡ subℕ y j → i + j ≡ k * 2 ^ w → i + j ≤ a + y + c + (m / 2 + 1)
+          → a + y + c ≤ i + j + m / 2 → exact s ≡ clipSigned w z
       at i j k p q e h l =
           ap exact (t .wraps ∙ sym (ap (λ (u : ℕ). wrap w (subℕ (a + y + c) u)) e ∙ wrap-diff w (a + y + c) k))
           ∙ diff-within w m (a + y + c) (i + j) (t .some) (t .ones) h l ∙ taking i j p q
 
       go : Dec (a ≤ m / 2) → Dec (y ≤ m / 2) → exact s ≡ clipSigned w z
-      go (yes h) (yes k) = at 0 0 0 (low w m a (t .ones) h) (low w m y (t .ones) k) (omega arith) (omega arith) (omega (arith, up h k, f h k))
+      go (yes h) (yes k) =
+          at 0 0 0 (low w m a (t .ones) h) (low w m y (t .ones) k) (omega arith) (omega arith) (omega (arith, up h k, f h k))
       go (yes h) (no k) =
           let l : m / 2 < y = lt-of-not-le k in
           at 0 (2 ^ w) 1 (low w m a (t .ones) h) (high w m y (t .ones) l) (omega arith) (omega arith) (omega arith)
@@ -94,13 +99,23 @@ module _ {w m a y c s : ℕ} {z : ℤ} (t : Sum w m a y c s z) where
       go (no h) (no k) =
           let l : m / 2 < a = lt-of-not-le h in
           let r : m / 2 < y = lt-of-not-le k in
-          at (2 ^ w) (2 ^ w) 2 (high w m a (t .ones) l) (high w m y (t .ones) r) (omega arith) (omega (arith, down l r, g l r)) (omega arith)
+          at (2 ^ w) (2 ^ w) 2 (high w m a (t .ones) l) (high w m y (t .ones) r) (omega arith) (omega (arith, down l r, g l r))
+          (omega arith)
 
 module _ (w m a b s : ℕ) (some : 1 ≤ w) (ones : m + 1 ≡ 2 ^ w) (la : a < 2 ^ w) (lb : b < 2 ^ w) (wraps : s ≡ (a + b) % 2 ^ w) where
   sum : Sum w m a b 0 s (signed w a +ℤ signed w b)
   sum =
       let e : (a + b) % 2 ^ w ≡ (a + b + 0) % 2 ^ w = rw (add-zero (a + b)) in
-      record { some = some; even = half some; ones = ones; first = la; second = lb; carry = omega arith; value = sum-total w a b; wraps = wraps ∙ e }
+      record {
+        some = some;
+        even = half some;
+        ones = ones;
+        first = la;
+        second = lb;
+        carry = omega arith;
+        value = sum-total w a b;
+        wraps = wraps ∙ e;
+      }
 
   pub sum-over : a ≤ m / 2 → b ≤ m / 2 → m / 2 < s → saturated (m / 2) ≡ vsadd w a b
   unfolding vsadd
@@ -118,7 +133,16 @@ module _ (w m a b s : ℕ) (some : 1 ≤ w) (ones : m + 1 ≡ 2 ^ w) (la : a < 2
   difference : Sum w m a (m - b) 1 s (signed w a -ℤ signed w b)
   difference =
       let e = ap (wrap w) (diff-eq a b (a + (m - b) + 1) (1 * 2 ^ w) (omega arith)) ∙ wrap-diff w (a + (m - b) + 1) 1 in
-      record { some = some; even = half some; ones = ones; first = la; second = omega arith; carry = omega arith; value = difference-total w m a b some ones lb; wraps = wraps ∙ e }
+      record {
+        some = some;
+        even = half some;
+        ones = ones;
+        first = la;
+        second = omega arith;
+        carry = omega arith;
+        value = difference-total w m a b some ones lb;
+        wraps = wraps ∙ e;
+      }
 
   pub difference-over : a ≤ m / 2 → m / 2 < b → m / 2 < s → saturated (m / 2) ≡ vssub w a b
   unfolding vssub

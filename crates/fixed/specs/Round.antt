@@ -9,7 +9,7 @@ use Rattle.fixed.specs.declared.Element.{Element}
 use Rattle.fixed.specs.declared.Vxrm.{Vxrm}
 use Rattle.fixed.specs.declared.Vxrm.the-variants.{Rnu, Rne, Rdn, Rod}
 
--- the rounding mode of a vxrm number (section 4.8)
+-- the rounding mode of a vxrm number (section 4.8); one above 3 is refused (answer 36)
 abbrev pub vxrmOf : ℕ → Vxrm
 vxrmOf n = cond (eqb n 0) Rnu (cond (eqb n 1) Rne (cond (eqb n 2) Rdn Rod))
 

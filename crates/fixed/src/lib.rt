@@ -21,6 +21,7 @@ pub enum Vxrm {
     Rod,
 }
 
+// The rounding mode of a vxrm number.
 pub fn vxrm_of(vxrm: u64) -> Vxrm
     ensures { λ r. ⌜ r ≡ vxrmOf vxrm ⌝ }
 {
@@ -50,6 +51,7 @@ pub fn clip_unsigned(sew: u64, v: u64) -> Element
     }
 }
 
+// z at least -2^(sew - 1) and at most 2^(sew - 1) - 1, else the nearer of these.
 pub fn clip_signed(sew: u64, z: i64) -> Element
     requires { ⌜ Width sew ⌝ }
     ensures { λ r. ⌜ r ≡ clipSigned sew z ⌝ }
@@ -75,6 +77,7 @@ pub fn clip_signed(sew: u64, z: i64) -> Element
     }
 }
 
+// vsaddu: the sum passes 2^sew - 1 where what a leaves to it is less than b.
 pub fn saddu(sew: u64, a: u64, b: u64) -> Element
     requires { ⌜ Width sew × ((a < 2 ^ sew) × (b < 2 ^ sew)) ⌝ }
     ensures { λ r. ⌜ r ≡ vsaddu sew a b ⌝ }
@@ -92,6 +95,7 @@ pub fn saddu(sew: u64, a: u64, b: u64) -> Element
     }
 }
 
+// vssubu: a - b, or 0.
 pub fn ssubu(sew: u64, a: u64, b: u64) -> Element
     requires { ⌜ Width sew × (a < 2 ^ sew) ⌝ }
     ensures { λ r. ⌜ r ≡ vssubu sew a b ⌝ }
@@ -108,7 +112,7 @@ pub fn ssubu(sew: u64, a: u64, b: u64) -> Element
     }
 }
 
-// The sum wraps where the operands have one sign and the sum the other.
+// vsadd: the sum wraps where the operands have one sign and the sum the other.
 pub fn sadd(sew: u64, a: u64, b: u64) -> Element
     requires { ⌜ Width sew × ((a < 2 ^ sew) × (b < 2 ^ sew)) ⌝ }
     ensures { λ r. ⌜ r ≡ vsadd sew a b ⌝ }
@@ -140,7 +144,7 @@ pub fn sadd(sew: u64, a: u64, b: u64) -> Element
     }
 }
 
-// The difference wraps where the operands have different signs and the difference has the second's.
+// vssub: the difference wraps where the operands have different signs and the difference has the second's.
 pub fn ssub(sew: u64, a: u64, b: u64) -> Element
     requires { ⌜ Width sew × ((a < 2 ^ sew) × (b < 2 ^ sew)) ⌝ }
     ensures { λ r. ⌜ r ≡ vssub sew a b ⌝ }
@@ -210,6 +214,7 @@ pub fn increment_of(rm: Vxrm, d: u64, last: u64, lost: u64) -> u64
     }
 }
 
+// v with its last d bits rounded off.
 pub fn round_unsigned(rm: Vxrm, v: u64, d: u64) -> u64
     requires { ⌜ d < 64 ⌝ }
     ensures { λ r. ⌜ r ≡ roundoffUnsigned rm v d ⌝ }
@@ -221,6 +226,7 @@ pub fn round_unsigned(rm: Vxrm, v: u64, d: u64) -> u64
     kept + increment_of(rm, d, kept % 2, width::low(d, v))
 }
 
+// z with its last d bits rounded off; what is kept is the quotient rounded down.
 pub fn round_signed(rm: Vxrm, z: i64, d: u64) -> i64
     requires { ⌜ d < 64 ⌝ }
     ensures { λ r. ⌜ r ≡ roundoffSigned rm z d ⌝ }
@@ -243,6 +249,7 @@ pub fn average(rm: Vxrm, sew: u64, x: u64, y: u64, c: u64) -> u64
     width::add(sew, kept, increment_of(rm, 1, kept % 2, low % 2))
 }
 
+// vaaddu: half the sum.
 pub fn aaddu(rm: Vxrm, sew: u64, a: u64, b: u64) -> u64
     requires { ⌜ Width sew ⌝ }
     ensures { λ r. ⌜ r ≡ vaaddu rm sew a b ⌝ }
@@ -250,7 +257,7 @@ pub fn aaddu(rm: Vxrm, sew: u64, a: u64, b: u64) -> u64
     average(rm, sew, a, b, 0)
 }
 
-// a - b is a + (2^sew - 1 - b) + 1 less 2^sew, whose half is 2^(sew - 1).
+// vasubu: a - b is a + (2^sew - 1 - b) + 1 less 2^sew, whose half is 2^(sew - 1).
 pub fn asubu(rm: Vxrm, sew: u64, a: u64, b: u64) -> u64
     requires { ⌜ Width sew × ((2 ≤ sew) × ((a < 2 ^ sew) × (b < 2 ^ sew))) ⌝ }
     ensures { λ r. ⌜ r ≡ vasubu rm sew a b ⌝ }
@@ -259,7 +266,7 @@ pub fn asubu(rm: Vxrm, sew: u64, a: u64, b: u64) -> u64
     width::add(sew, average(rm, sew, a, m - b, 1), m / 2 + 1)
 }
 
-// A signed value plus 2^(sew - 1) is not negative. Two of them add 2^sew.
+// vaadd: a signed value plus 2^(sew - 1) is not negative. Two of them add 2^sew.
 pub fn aadd(rm: Vxrm, sew: u64, a: u64, b: u64) -> u64
     requires { ⌜ Width sew × ((2 ≤ sew) × ((a < 2 ^ sew) × (b < 2 ^ sew))) ⌝ }
     ensures { λ r. ⌜ r ≡ vaadd rm sew a b ⌝ }
@@ -270,7 +277,7 @@ pub fn aadd(rm: Vxrm, sew: u64, a: u64, b: u64) -> u64
     width::add(sew, average(rm, sew, x, y, 0), h)
 }
 
-// a - b: b's complement, 2^sew - 1 - b, has the signed value -1 - b.
+// vasub: b's complement, 2^sew - 1 - b, has the signed value -1 - b.
 pub fn asub(rm: Vxrm, sew: u64, a: u64, b: u64) -> u64
     requires { ⌜ Width sew × ((2 ≤ sew) × ((a < 2 ^ sew) × (b < 2 ^ sew))) ⌝ }
     ensures { λ r. ⌜ r ≡ vasub rm sew a b ⌝ }
@@ -282,6 +289,7 @@ pub fn asub(rm: Vxrm, sew: u64, a: u64, b: u64) -> u64
     width::add(sew, average(rm, sew, x, y, 1), h)
 }
 
+// vssrl: a with b % sew bits rounded off.
 pub fn ssrl(rm: Vxrm, sew: u64, a: u64, b: u64) -> u64
     requires { ⌜ Width sew ⌝ }
     ensures { λ r. ⌜ r ≡ vssrl rm sew a b ⌝ }
@@ -289,6 +297,7 @@ pub fn ssrl(rm: Vxrm, sew: u64, a: u64, b: u64) -> u64
     width::low(sew, round_unsigned(rm, a, b % sew))
 }
 
+// vssra: the same, a signed.
 pub fn ssra(rm: Vxrm, sew: u64, a: u64, b: u64) -> u64
     requires { ⌜ Width sew × (a < 2 ^ sew) ⌝ }
     ensures { λ r. ⌜ r ≡ vssra rm sew a b ⌝ }
@@ -297,6 +306,7 @@ pub fn ssra(rm: Vxrm, sew: u64, a: u64, b: u64) -> u64
     width::from_signed(sew, round_signed(rm, z, b % sew))
 }
 
+// vnclipu: a has 2 * sew bits, of which b % (2 * sew) are rounded off; the rest is clipped.
 pub fn nclipu(rm: Vxrm, sew: u64, a: u64, b: u64) -> Element
     requires { ⌜ Width (2 * sew) ⌝ }
     ensures { λ r. ⌜ r ≡ vnclipu rm sew a b ⌝ }
@@ -304,6 +314,7 @@ pub fn nclipu(rm: Vxrm, sew: u64, a: u64, b: u64) -> Element
     clip_unsigned(sew, round_unsigned(rm, a, b % (2 * sew)))
 }
 
+// vnclip: the same, a signed.
 pub fn nclip(rm: Vxrm, sew: u64, a: u64, b: u64) -> Element
     requires { ⌜ Width (2 * sew) × (a < 2 ^ (2 * sew)) ⌝ }
     ensures { λ r. ⌜ r ≡ vnclip rm sew a b ⌝ }
@@ -312,6 +323,7 @@ pub fn nclip(rm: Vxrm, sew: u64, a: u64, b: u64) -> Element
     clip_signed(sew, round_signed(rm, z, b % (2 * sew)))
 }
 
+// vsmul: the product, both signed, with sew - 1 bits rounded off and clipped.
 pub fn smul(rm: Vxrm, sew: u64, a: u64, b: u64) -> Element
     requires { ⌜ Width (2 * sew) × ((a < 2 ^ sew) × (b < 2 ^ sew)) ⌝ }
     ensures { λ r. ⌜ r ≡ vsmul rm sew a b ⌝ }

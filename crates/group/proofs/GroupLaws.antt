@@ -55,7 +55,8 @@ abbrev pub SameOrApart : Group → Group → Type 0
 SameOrApart d s = (d .reg ≡ s .reg) ⊎ ((d .reg + registersOf d ≤ s .reg) ⊎ (s .reg + registersOf s ≤ d .reg))
 
 -- aligned groups of as many registers
-pub same-or-apart : (d s : Group) → registersOf d ≡ registersOf s → d .reg % registersOf d ≡ 0 → s .reg % registersOf s ≡ 0 → SameOrApart d s
+pub same-or-apart : (d s : Group) → registersOf d ≡ registersOf s → d .reg % registersOf d ≡ 0 → s .reg % registersOf s ≡ 0
+    → SameOrApart d s
 same-or-apart d s e p q = by-order (decLt (d .reg) (s .reg)) (decLt (s .reg) (d .reg)) where
   by-order : Dec (d .reg < s .reg) → Dec (s .reg < d .reg) → SameOrApart d s
   by-order (yes l) g = inr (inl (next-multiple (registersOf d) (d .reg) (s .reg) p (rw e q) l))

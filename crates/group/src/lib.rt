@@ -30,6 +30,7 @@ pub fn mask(reg: usize) -> Group
     }
 }
 
+// How many registers a group has: EMUL, and 1 where EMUL is below 1.
 pub fn registers(group: Group) -> usize
     ensures { λ r. ⌜ r ≡ registersOf group ⌝ }
 {

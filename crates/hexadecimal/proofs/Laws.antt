@@ -12,7 +12,7 @@ use borrow.Author.Tests.{le-leb, lt-leb}
 use mir.Syntax.{w64}
 use mir.Val.{Fits}
 use mir.Facts.{fits-le}
-use Rattle.hexadecimal.specs.Hexadecimal.{isDigit, digitOf, digitsAt, numberAt}
+use Rattle.hexadecimal.specs.Hexadecimal.{digitOf, allAt, numberAt}
 
 -- past the end
 pub no-byte : (s : List ℕ) (at : ℕ) → length s ≤ at → 0 ≡ getD s at 0
@@ -44,14 +44,15 @@ pub ruleset digit-ways = (decimal, letter, below, between, above)
 
 -- ---- none, and one more
 
-pub no-digits : (s : List ℕ) (at : ℕ) → true ≡ digitsAt s at 0
-unfolding digitsAt
-no-digits s at = refl
+-- bytes that pass a test
+pub all-none : (test : ℕ → Bool) (s : List ℕ) (at : ℕ) → true ≡ allAt test s at 0
+unfolding allAt
+all-none test s at = refl
 
-pub digits-more : (s : List ℕ) (at i b : ℕ) (all r : Bool) → all ≡ digitsAt s at i → b ≡ getD s (at + i) 0 → r ≡ isDigit b
-    → (all && r) ≡ digitsAt s at (i + 1)
-unfolding digitsAt
-digits-more s at i b all r p q h = rw (add-one i) (ap₂ _&&_ p (h ∙ ap isDigit q))
+pub all-more : (test : ℕ → Bool) (s : List ℕ) (at i b : ℕ) (all r : Bool) → all ≡ allAt test s at i → r ≡ test b → b ≡ getD s (at + i) 0
+    → (all && r) ≡ allAt test s at (i + 1)
+unfolding allAt
+all-more test s at i b all r p h q = rw (add-one i) (ap₂ _&&_ p (h ∙ ap test q))
 
 pub no-number : (s : List ℕ) (at : ℕ) → 0 ≡ numberAt s at 0
 unfolding numberAt

@@ -19,10 +19,14 @@ isDigit b = isDecimal b || isLetter b
 unfoldable pub digitOf : ℕ → ℕ
 digitOf b = cond (isDecimal b) (b - 48) (cond (isLetter b) (b - 87) 0)
 
--- whether the n bytes from index `at` are digits, and their number
-unfoldable pub digitsAt : List ℕ → ℕ → ℕ → Bool
-digitsAt s at zero = true
-digitsAt s at (suc n) = digitsAt s at n && isDigit (getD s (at + n) 0)
+-- whether the n bytes from index `at` pass a test
+unfoldable pub allAt : (ℕ → Bool) → List ℕ → ℕ → ℕ → Bool
+allAt test s at zero = true
+allAt test s at (suc n) = allAt test s at n && test (getD s (at + n) 0)
+
+-- whether they are digits, and their number
+abbrev pub digitsAt : List ℕ → ℕ → ℕ → Bool
+digitsAt s at n = allAt isDigit s at n
 
 unfoldable pub numberAt : List ℕ → ℕ → ℕ → ℕ
 numberAt s at zero = 0

@@ -23,6 +23,7 @@ pub fn digit(b: u8) -> u64
     }
 }
 
+// Whether a byte is a lower-case hex digit.
 fn is_digit(b: u8) -> bool
     ensures { λ r. ⌜ r ≡ (isDecimal b || isLetter b) ⌝ }
 {

@@ -19,5 +19,6 @@ pub left-is : (w n r : ℕ) → r ≡ n % 2 ^ 64 % 2 ^ w → Width w → r ≡ n
 left-is w n r e h = e ∙ low-low n (h .most)
 
 -- to the right, signed, from v bits to w
-pub right-is : (v w a k r : ℕ) (x : ℤ) → r ≡ wrap w (toZ w64 (ofZ w64 (shrZ (toZ w64 (ofZ w64 x)) (2 ^ k)))) → x ≡ signed v a → mag x < 2 ^ 63 → r ≡ wrap w (shrZ (signed v a) (2 ^ k))
+pub right-is : (v w a k r : ℕ) (x : ℤ) → r ≡ wrap w (toZ w64 (ofZ w64 (shrZ (toZ w64 (ofZ w64 x)) (2 ^ k)))) → x ≡ signed v a
+    → mag x < 2 ^ 63 → r ≡ wrap w (shrZ (signed v a) (2 ^ k))
 right-is v w a k r x e f h = e ∙ ap (wrap w) (shr-back x (2 ^ k) (in-range h) ∙ ap (λ (z : ℤ). shrZ z (2 ^ k)) f)

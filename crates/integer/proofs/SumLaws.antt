@@ -42,7 +42,8 @@ difference-is w a b r x y e f g =
     let s : Residue w x = residue w x in
     let t : Residue w y = residue w y in
     e ∙ wrap-cong w a b (s .p + t .n) (s .n + t .p) (s .k + t .j) (s .j + t .k) (omega arith)
-    ∙ ap (wrap w) (sym (ap₂ _-ℤ_ (s .is) (t .is) ∙ ap (λ (z : ℤ). subℕ (s .p) (s .n) +ℤ z) (neg-diff (t .p) (t .n)) ∙ add-diff (s .p) (s .n) (t .n) (t .p)))
+    ∙ ap (wrap w) (sym (ap₂ _-ℤ_ (s .is) (t .is)
+    ∙ ap (λ (z : ℤ). subℕ (s .p) (s .n) +ℤ z) (neg-diff (t .p) (t .n)) ∙ add-diff (s .p) (s .n) (t .n) (t .p)))
 
 -- an operand that has the result's width already
 pub element-is : (w x : ℕ) → x < 2 ^ w → x ≡ wrap w (signed w x)

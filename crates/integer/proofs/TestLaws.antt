@@ -16,7 +16,8 @@ use Rattle.width.proofs.Diff.{leZ-is}
 use Rattle.width.proofs.SignedLaws.{in-range, lt-back}
 
 -- the order of two elements read as i64
-pub less-is : (w a b s t r : ℕ) (x y : ℤ) → r ≡ cond (ltZ (toZ w64 (ofZ w64 x)) (toZ w64 (ofZ w64 y))) s t → x ≡ signed w a → y ≡ signed w b → mag x < 2 ^ 63 → mag y < 2 ^ 63 → r ≡ cond (ltZ (signed w a) (signed w b)) s t
+pub less-is : (w a b s t r : ℕ) (x y : ℤ) → r ≡ cond (ltZ (toZ w64 (ofZ w64 x)) (toZ w64 (ofZ w64 y))) s t → x ≡ signed w a → y ≡ signed w b
+    → mag x < 2 ^ 63 → mag y < 2 ^ 63 → r ≡ cond (ltZ (signed w a) (signed w b)) s t
 less-is w a b s t r x y e f g h l = e ∙ ap (λ (u : Bool). cond u s t) (lt-back x y (in-range h) (in-range l) ∙ ap₂ ltZ f g)
 
 -- at most: the test the other way fails

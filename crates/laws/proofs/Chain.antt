@@ -64,4 +64,36 @@ not-yes p h = rw h
 pub not-no : (p : Bool) → p ≡ true → not p ≡ false
 not-no p h = rw h
 
-pub ruleset chain = (yes, no, known, counted, ne-eqb, denied, granted, and-yes, and-left, and-right, or-left, or-right, or-no, not-yes, not-no)
+pub ruleset chain = (
+  yes,
+  no,
+  known,
+  counted,
+  ne-eqb,
+  denied,
+  granted,
+  and-yes,
+  and-left,
+  and-right,
+  or-left,
+  or-right,
+  or-no,
+  not-yes,
+  not-no,
+)
+
+-- ---- a test of several parts, on numbers that calls have answered
+
+pub told : (b r v : Bool) → r ≡ v → r ≡ b → b ≡ v
+told b r v t e = sym e ∙ t
+
+pub same-eqb : (k n m : ℕ) → k ≡ n → eqb k m ≡ eqb n m
+same-eqb k n m e = ap (λ (x : ℕ). eqb x m) e
+
+pub same-and : (p q r s : Bool) → p ≡ r → q ≡ s → (p && q) ≡ (r && s)
+same-and p q r s e f = rw (e, f)
+
+pub same-or : (p q r s : Bool) → p ≡ r → q ≡ s → (p || q) ≡ (r || s)
+same-or p q r s e f = rw (e, f)
+
+pub ruleset answered = (yes, no, told, same-eqb, same-and, same-or)

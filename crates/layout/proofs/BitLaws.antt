@@ -31,7 +31,8 @@ withBit-low x k b = ap (λ (y : ℕ). y % 2 ^ k) (withBit-parts x k b) ∙ low (
 bit-below : (x j k : ℕ) → j < k → bitOf x j ≡ x % 2 ^ k / 2 ^ j % 2
 bit-below x j k h =
     let e : k ≡ k - suc j + 1 + j = omega arith in
-    sym (ap (λ (m : ℕ). x % 2 ^ m / 2 ^ j % 2) e ∙ ap (λ (y : ℕ). y % 2) (field x (k - suc j + 1) j) ∙ mod-mod-pow (x / 2 ^ j) (k - suc j) 1)
+    sym
+    (ap (λ (m : ℕ). x % 2 ^ m / 2 ^ j % 2) e ∙ ap (λ (y : ℕ). y % 2) (field x (k - suc j + 1) j) ∙ mod-mod-pow (x / 2 ^ j) (k - suc j) 1)
 
 bit-above : (x j k : ℕ) → k < j → bitOf x j ≡ x / 2 ^ k / 2 / 2 ^ (j - suc k) % 2
 bit-above x j k h =

@@ -25,12 +25,14 @@ pub withBytes-split : (l : List ℕ) (a m n x : ℕ) → withBytes l a (m + n) x
 unfolding withBytes
 withBytes-split l a zero n x = rw (zero-add n, add-zero a, div-one x)
 withBytes-split l a (suc m) n x =
-    rw (suc-add m n, add-suc a m, ← suc-add a m, mul-suc 8 m, add-comm (8 * m) 8, ← shr-shr x 8 (8 * m)) (withBytes-split (set l a (x % 256)) (suc a) m n (x / 256))
+    rw (suc-add m n, add-suc a m, ← suc-add a m, mul-suc 8 m, add-comm (8 * m) 8, ← shr-shr x 8 (8 * m))
+    (withBytes-split (set l a (x % 256)) (suc a) m n (x / 256))
 
 pub read-halves : (m : ℕ) (l : List ℕ) (a x y : ℕ) → x ≡ bytesAt l a m → y ≡ bytesAt l (a + m) m → x + 2 ^ (8 * m) * y ≡ bytesAt l a (m + m)
 read-halves m l a x y p q = ap₂ (λ (u v : ℕ). u + 2 ^ (8 * m) * v) p q ∙ sym (bytes-split l a m m)
 
-pub write-halves : (m : ℕ) (l l′ l″ : List ℕ) (a x : ℕ) → l′ ≡ withBytes l a m x → l″ ≡ withBytes l′ (a + m) m (x / 2 ^ (8 * m)) → l″ ≡ withBytes l a (m + m) x
+pub write-halves : (m : ℕ) (l l′ l″ : List ℕ) (a x : ℕ) → l′ ≡ withBytes l a m x → l″ ≡ withBytes l′ (a + m) m (x / 2 ^ (8 * m))
+    → l″ ≡ withBytes l a (m + m) x
 write-halves m l l′ l″ a x p q = q ∙ ap (λ (k : List ℕ). withBytes k (a + m) m (x / 2 ^ (8 * m))) p ∙ sym (withBytes-split l a m m x)
 
 -- ---- one byte, and a number of bytes n that is known to be m

@@ -61,7 +61,8 @@ at-several : (vlenb : ℕ) (file : List ℕ) (reg n i : ℕ) → elementAt vlenb
 unfolding elementAt
 at-several vlenb file reg n i = several n (bitAt file (vlenb * reg) i) (λ m. bytesAt file (vlenb * reg + i * m) m)
 
-with-several : (vlenb : ℕ) (file : List ℕ) (reg n i x : ℕ) → withElement vlenb file reg (8 * n) i x ≡ withBytes file (vlenb * reg + i * n) n x
+with-several : (vlenb : ℕ) (file : List ℕ) (reg n i x : ℕ)
+    → withElement vlenb file reg (8 * n) i x ≡ withBytes file (vlenb * reg + i * n) n x
 unfolding withElement
 with-several vlenb file reg n i x = several n (withBitAt file (vlenb * reg) i x) (λ m. withBytes file (vlenb * reg + i * m) m x)
 
@@ -74,7 +75,8 @@ length-withBitAt l a i x = length-set l _ _
 pub length-withElement : (vlenb : ℕ) (file : List ℕ) (reg eew i x : ℕ) → length (withElement vlenb file reg eew i x) ≡ length file
 unfolding withElement
 length-withElement vlenb file reg eew i x =
-    either (λ (l : List ℕ). length l ≡ length file) (eqb eew 1) _ _ (λ e. length-withBitAt file (vlenb * reg) i x) (λ e. length-withBytes file _ (eew / 8) x)
+    either (λ (l : List ℕ). length l ≡ length file) (eqb eew 1) _ _ (λ e. length-withBitAt file (vlenb * reg) i x)
+    (λ e. length-withBytes file _ (eew / 8) x)
 
 -- ---- in a list of bytes an element is below 2 ^ EEW
 
@@ -110,7 +112,8 @@ bits-apart l a i x b j d = go (ℕ-discrete q p) (decLt p (length l))
     go (yes e) (no n) = rw (set-out l p y (omega arith))
     go (yes e) (yes s) = rw (e, getD-set-same l p y 0 s) (bit-other (getD l p 0) (i % 8) (x % 2) (j % 8) (omega arith) (omega arith))
 
-pub apart : (vlenb : ℕ) (file : List ℕ) (reg eew i x q eew′ j : ℕ) → T (elementWidth eew) → T (elementWidth eew′) → Apart vlenb reg eew i q eew′ j
+pub apart : (vlenb : ℕ) (file : List ℕ) (reg eew i x q eew′ j : ℕ) → T (elementWidth eew) → T (elementWidth eew′)
+    → Apart vlenb reg eew i q eew′ j
     → elementAt vlenb (withElement vlenb file reg eew i x) q eew′ j ≡ elementAt vlenb file q eew′ j
 unfolding elementAt withElement bitAt withBitAt
 apart vlenb file reg eew i x q eew′ j t t′ =

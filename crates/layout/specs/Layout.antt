@@ -46,6 +46,8 @@ unfoldable pub withElement : ℕ → List ℕ → ℕ → ℕ → ℕ → ℕ �
 withElement vlenb file reg eew i x =
     cond (eqb eew 1) (withBitAt file (vlenb * reg) i x) (withBytes file (vlenb * reg + i * (eew / 8)) (eew / 8) x)
 
+-- ---- for contracts of inner functions, not to be believed
+
 -- the sizes of an element in bytes, and its EEW
 abbrev pub byteSize : ℕ → Bool
 byteSize n = eqb n 1 || (eqb n 2 || (eqb n 4 || eqb n 8))

@@ -117,6 +117,7 @@ pub fn write_bit(l: &mut [u8], a: usize, i: usize, x: u64)
 
 // ---- elements of the register file. A byte is tested first, at an index worked out before the tests: so the loop over elements is faster.
 
+// Element i of the group that begins at the register reg; of EEW 1, bit i of that register.
 pub fn read_element(file: &[u8], vlenb: usize, reg: usize, eew: usize, i: usize) -> u64
     requires { ⌜ Inside (length (now file)) vlenb reg eew i ⌝ }
     ensures { λ r. ⌜ (r ≡ elementAt vlenb (now (file .entry)) reg eew i) × (r < 2 ^ eew) ⌝ }
@@ -132,6 +133,7 @@ pub fn read_element(file: &[u8], vlenb: usize, reg: usize, eew: usize, i: usize)
     read_bytes(file, at, n)
 }
 
+// The low eew bits of x become that element.
 pub fn write_element(file: &mut [u8], vlenb: usize, reg: usize, eew: usize, i: usize, x: u64)
     requires { ⌜ Inside (length (now file)) vlenb reg eew i ⌝ }
     ensures { λ _. ⌜ now (file .exit) ≡ withElement vlenb (now (file .entry)) reg eew i x ⌝ }

@@ -1,4 +1,4 @@
--- Demands 1 and 3 of the customer hold of the definition of a turn.
+-- Demands 1 and 3 of the customer, and the law of the number passed, hold of the definition of a turn.
 use Prim.Native.Nat.{ℕ, _+_, _-_, _^_, _≤_}
 use mathlib.Core.Path.{_≡_, refl, sym, ap, _∙_, subst}
 use mathlib.Core.Logic.{_⊎_, inl, inr}
@@ -18,171 +18,228 @@ use Rattle.control.specs.declared.Board.{Board}
 use Rattle.control.specs.declared.Control.{Control}
 use Rattle.control.specs.declared.Avl.{Avl}
 use Rattle.control.specs.declared.Avl.the-variants.{To, Keep}
-use Rattle.control.specs.Control.{setOf, keepsOf}
+use Rattle.control.specs.Board.{Valid}
+use Rattle.control.specs.Control.{withVstart, withVxsat, setOf, keepsOf}
 use Rattle.control.specs.Vtype.{supportedOf}
-use Rattle.decode.specs.declared.Instruction as Decoded
-use Rattle.decode.specs.declared.Instruction.the-variants as I
+use Rattle.control.proofs.Laws.{possible-apart}
 use Rattle.decode.specs.declared.MaskOp.{MaskOp}
 use Rattle.decode.specs.declared.MaskOp.the-variants.{Vcpop, Vfirst, Vmsbf, Vmsof, Vmsif}
 use Rattle.decode.specs.declared.MaskInstruction.{MaskInstruction}
+use Rattle.decode.specs.declared.Access.{Access}
+use Rattle.decode.specs.declared.Mode.{Mode}
+use Rattle.decode.specs.declared.Mode.the-variants as M
+use Rattle.decode.specs.declared.Instruction.{Instruction}
+use Rattle.decode.specs.declared.Instruction.the-variants as I
 use Rattle.decode.specs.Word.{decodeOf}
-use Rattle.access.specs.Access.{accessOf}
+use Rattle.decode.proofs.Fields.{fits}
+use Rattle.access.specs.declared.FaultPlace.{FaultPlace}
+use Rattle.access.specs.declared.Fault.{Fault}
+use Rattle.access.specs.declared.AccessCheck.{AccessCheck}
+use Rattle.access.specs.declared.AccessCheck.the-variants.{Granted, Faulted}
+use Rattle.access.specs.Access.{nowhere, accessOf}
 use Rattle.refusal.specs.Refusal.{refusalOf}
-use Rattle.elementwise.specs.declared.Action.{Action}
-use Rattle.elementwise.specs.declared.Action.the-variants as A
-use Rattle.elementwise.specs.declared.Elementwise.{Elementwise}
-use Rattle.elementwise.specs.Elementwise.{computingOf, transferringOf}
-use Rattle.turns.specs.Turn.{Effect, idle, fault, write, finished, paused, trapped, refused, Instruction, Point, Turn, turn, turns, Opening, NoneFinishes, uncutRun}
-use Rattle.turns.specs.Turn as Turn
-use Rattle.turns.specs.Claims.{Lawful}
-use Rattle.turns.proofs.Laws.{turn-cases, turn-keeps, uncut, monotone}
-use Rattle.machine.specs.State.{State, Outcome, Core, withVstart, coreOf, stateOf}
-use Rattle.machine.specs.Effect.{Write, Fault, activeOf, toRegisters, toMemory, putOf, byVerdict, actingOf, effectOf}
-use Rattle.machine.specs.OneTurn.{typeFrom, avlFrom, settingResult, maskResult}
-use Rattle.machine.specs.Machine.{legalAt, refusalAt, orElse, effectAt, resultAt, instructionOf, answerOf, ranOf, outcomeOf, turnOf, Opened}
-use Rattle.machine.specs.Demands.{isTrap, isRefusal, Demand1, Demand3, Next, withRights, turnsOf, lastRights, Proceeds}
+use Rattle.refusal.proofs.RefusalLaws.{accepted-facts}
+use Rattle.plan.specs.declared.Action.{Action}
+use Rattle.plan.specs.declared.Action.the-variants as A
+use Rattle.plan.specs.declared.Elementwise.{Elementwise}
+use Rattle.plan.specs.declared.OneTurn.{OneTurn}
+use Rattle.plan.specs.declared.OneTurn.the-variants as O
+use Rattle.plan.specs.declared.Plan.{Plan}
+use Rattle.plan.specs.declared.Plan.the-variants as P
+use Rattle.plan.specs.Plan.{shapedOf, byMode, planOf}
+use Rattle.plan.specs.Legal.{legalOf}
+use Rattle.turn_theory.specs.Turn.{Effect, inactive, fault, write, finished, paused, trapped, rejected, Semantics, Point, TurnEnd, Turn}
+use Rattle.turn_theory.specs.Turn.{turn, turns, Opening, NoneFinishes, finalRights, uncutRun}
+use Rattle.turn_theory.specs.Claims.{Lawful}
+use Rattle.turn_theory.proofs.Laws.{turn-rejected, turn-cases, turn-keeps, unfinished-keeps, uncut, monotone}
+use Rattle.machine.specs.State.{State, Outcome, withRights, Core, coreOf, stateOf}
+use Rattle.machine.specs.Effect.{Write, activeOf, toRegisters, toMemory, putOf, ifGranted, actingOf, effectOf}
+use Rattle.machine.specs.OneTurn.{typeFrom, avlFrom, settingResult, maskResult, oneTurnResult}
+use Rattle.machine.specs.Machine.{endOf, effectAt, resultAt, refusalAt, orIllegal, rejectionAt, Opened, semanticsOf, answerOf}
+use Rattle.machine.specs.Machine.{ranOf, outcomeOf, planTurn, planAt, turnOf}
+use Rattle.machine.specs.Demands.{isTrap, changesNothing, untouched, Demand1, Demand3, Counts, Next, turnsOf, lastRights, Between}
+use Rattle.machine.specs.Demands.{Proceeds}
+use Rattle.machine.proofs.PlanFacts.{plan-sound}
+use Rattle.machine.proofs.Lawful.{opened-refl, lawful}
 
--- ---- a fault's answer is a trap, and a refusal's answer a refusal
+-- ---- a fault's answer is a trap, and a rejection's answer one that changes nothing
 
--- a trap, and no other answer that a turn gives
+-- the answers of faults, and of refusals: no answer is both
 abbrev trapOnly : Answer → Bool
-trapOnly a = isTrap a && not (isRefusal a)
+trapOnly a = isTrap a && not (changesNothing a)
 
--- a verdict that refuses by no answers but those that P says
+abbrev refusalOnly : Answer → Bool
+refusalOnly a = changesNothing a && not (isTrap a)
+
 data Refuses (P : Answer → Bool) : Verdict → Type 0 where
   accepts : Refuses P Accepted
   refuses : {a : Answer} → P a ≡ true → Refuses P (Refused a)
 
-access-traps : (rights : List ℕ) (memory : ℕ) (store : Bool) (a n : ℕ) → Refuses trapOnly (accessOf rights memory store a n)
+data Checks (P : Answer → Bool) : AccessCheck → Type 0 where
+  grants : Checks P Granted
+  faulted : {a : Answer} {q : FaultPlace} → P a ≡ true → Checks P (Faulted (record { answer = a; place = q }))
+
+access-traps : (rights : List ℕ) (memory : ℕ) (store : Bool) (a n : ℕ) → Checks trapOnly (accessOf rights memory store a n)
 unfolding accessOf
-access-traps rights memory store a n = search (accepts, refuses, either (Refuses trapOnly), either (λ (a : Answer). trapOnly a ≡ true)) depth 6
+access-traps rights memory store a n =
+    search (grants, faulted, either (Checks trapOnly), either (λ (a : Answer). trapOnly a ≡ true)) depth 6
 
 board-refuses : (b : Board) (registers scalars memory : ℕ) (rights : List ℕ) (c : Control)
-    → Refuses isRefusal (refusalOf b registers scalars memory rights c)
+    → Refuses refusalOnly (refusalOf b registers scalars memory rights c)
 unfolding refusalOf
-board-refuses b registers scalars memory rights c = search (accepts, refuses, either (Refuses isRefusal)) depth 8
+board-refuses b registers scalars memory rights c = search (accepts, refuses, either (Refuses refusalOnly)) depth 8
 
--- the answer of a refusal changes nothing
-abbrev Refusing : Option Answer → Type 0
-Refusing none = Unit {0}
-Refusing (some a) = isRefusal a ≡ true
+abbrev Rejecting : Option Answer → Type 0
+Rejecting none = Unit {0}
+Rejecting (some a) = changesNothing a ≡ true
 
-refusing-else : (v : Verdict) (o : Option Answer) → Refuses isRefusal v → Refusing o → Refusing (orElse v o)
-refusing-else Accepted o h k = k
-refusing-else (Refused a) o (refuses h) k = h
+rejecting-else : (v : Verdict) (o : Option Answer) → Refuses refusalOnly v → Rejecting o → Rejecting (orIllegal v o)
+rejecting-else Accepted o h k = k
+rejecting-else (Refused a) o (refuses h) k = both-left (changesNothing a) (not (isTrap a)) h
 
-refusal-refuses : (b : Board) (i : Decoded.Instruction) (rights : List ℕ) (s : Core) (v : ℕ) → Refusing (refusalAt b i rights s v)
-unfolding refusalAt
-refusal-refuses b i rights s v =
-    refusing-else _ _ (board-refuses b _ _ _ rights _)
-    (either Refusing (legalAt b i (s .scalars) (withVstart (s .control) v)) none (some Illegal) (λ t. tt) (λ t. refl))
+rejection-rejects : (b : Board) (p : Plan) (rights : List ℕ) (s : Core) (v : ℕ) → Rejecting (rejectionAt b p rights s v)
+unfolding rejectionAt
+rejection-rejects b p rights s v =
+    rejecting-else _ _ (board-refuses b _ _ _ rights _)
+    (either Rejecting (legalOf b (withVstart (s .control) v) p) none (some Illegal) (λ t. tt) (λ t. refl))
 
--- the answer of a fault is a trap
 abbrev Trapping : Effect Fault Write → Type 0
-Trapping idle = Unit {0}
+Trapping inactive = Unit {0}
 Trapping (fault x) = trapOnly (x .answer) ≡ true
 Trapping (write w) = Unit {0}
 
-trapping-verdict : (v : Verdict) (a : ℕ) (w : Write) → Refuses trapOnly v → Trapping (byVerdict v a (write w))
-trapping-verdict Accepted a w h = tt
-trapping-verdict (Refused x) a w (refuses h) = h
+trapping-check : (v : AccessCheck) (w : Write) → Checks trapOnly v → Trapping (ifGranted v (write w))
+trapping-check Granted w h = tt
+trapping-check (Faulted x) w (faulted h) = h
 
 acting-traps : (b : Board) (rights : List ℕ) (s : Core) (e : Elementwise) (i : ℕ) (x : Action) → Trapping (actingOf b rights s e i x)
 unfolding actingOf
 acting-traps b rights s e i (A.Compute k) = tt
-acting-traps b rights s e i (A.Load t) = trapping-verdict _ _ _ (access-traps rights (length (s .memory)) false _ (t .bytes))
-acting-traps b rights s e i (A.Store t) = trapping-verdict _ _ _ (access-traps rights (length (s .memory)) true _ (t .bytes))
+acting-traps b rights s e i (A.Load t) = trapping-check _ _ (access-traps rights (length (s .memory)) false _ (t .bytes))
+acting-traps b rights s e i (A.Store t) = trapping-check _ _ (access-traps rights (length (s .memory)) true _ (t .bytes))
 
-element-traps : (b : Board) (rights : List ℕ) (s : Core) (e : Elementwise) (i : ℕ) → Trapping (effectOf b rights s e i)
+effect-traps : (b : Board) (p : Plan) (rights : List ℕ) (s : Core) (k : ℕ) → Trapping (effectAt b p rights s k)
 unfolding effectOf
-element-traps b rights s e i =
-    either Trapping (activeOf (b .vlenb) (s .registers) (e .masked) i) (actingOf b rights s e i (e .action)) idle
-    (λ t. acting-traps b rights s e i (e .action)) (λ t. tt)
-
-effect-traps : (b : Board) (i : Decoded.Instruction) (rights : List ℕ) (s : Core) (k : ℕ) → Trapping (effectAt b i rights s k)
-unfolding effectAt
-effect-traps b I.Illegal rights s k = tt
-effect-traps b (I.Setting t) rights s k = tt
-effect-traps b (I.Mask m) rights s k = tt
-effect-traps b (I.Arithmetic a) rights s k = element-traps b rights s (computingOf (s .scalars) (s .control) a) k
-effect-traps b (I.Memory a) rights s k = element-traps b rights s (transferringOf b (s .scalars) (s .control) a) k
+effect-traps b P.Illegal rights s k = tt
+effect-traps b (P.OneTurn t) rights s k = tt
+effect-traps b (P.Elements e) rights s k =
+    either Trapping (activeOf (b .vlenb) (s .registers) (e .masked) k) (actingOf b rights s e k (e .action)) inactive
+    (λ t. acting-traps b rights s e k (e .action)) (λ t. tt)
 
 -- ---- the outcome of a turn
-
--- the turn and the point of the theory of turns that rights and an allowance, and a state, make
-abbrev turnWith : (b : Board) (i : Decoded.Instruction) → List ℕ → ℕ → Turn (instructionOf b i)
-turnWith b i r n = record { rights = r; allowance = n }
-
-abbrev pointOf : (b : Board) (i : Decoded.Instruction) → State → Point (instructionOf b i)
-pointOf b i s = record { state = coreOf s; vstart = s .control .vstart }
 
 -- where P holds of a and not of c, the two differ
 apart : {A : Type 0} (P : A → Bool) (a c : A) → P a ≡ true → P c ≡ false → a ≡ c → ⊥
 apart P a c h k e = let f : P a ≡ P c = ap P e in let z : _≡_ {A = ℕ} 0 1 = cc in omega arith
 
-module _ (b : Board) (i : Decoded.Instruction) where
-  abbrev J : Instruction
-  J = instructionOf b i
+module _ (b : Board) (p : Plan) where
+  abbrev J : Semantics
+  J = semanticsOf b p
 
-  -- what holds of a refusal, a trap, a pause and a finish holds of a turn's outcome
-  answer-cases : (t : Turn J) (p : Point J) (P : Turn.Outcome J → Type 0)
-      → ((a : Answer) → isRefusal a ≡ true → P (record { ending = refused a; passed = 0; after = p }))
-      → ((x : Fault) (k : ℕ) (q : Point J) → trapOnly (x .answer) ≡ true → P (record { ending = trapped x; passed = k; after = q }))
-      → ((q : Point J) → P (record { ending = paused; passed = t .allowance; after = q }))
-      → ((k : ℕ) (q : Point J) → P (record { ending = finished; passed = k; after = q }))
-      → P (turn J t p)
-  answer-cases t p P if-refused if-trapped if-paused if-finished = turn-cases J t p P (record {
-    on-refused = λ a e. if-refused a (subst Refusing e (refusal-refuses b i (t .rights) (p .state) (p .vstart)));
-    on-trapped = λ x k h l f e. if-trapped x k _ (subst Trapping e (effect-traps b i (t .rights) (p .state) (p .vstart + k)));
+  -- the turn and the point of the theory of turns that rights and an allowance, and a state, make
+  abbrev turnWith : List ℕ → ℕ → Turn J
+  turnWith r n = record { rights = r; allowance = n }
+
+  abbrev pointOf : State → Point J
+  pointOf s = record { state = coreOf s; vstart = s .control .vstart }
+
+  -- what holds of a rejection, a trap, a pause and a finish holds of a turn's outcome
+  answer-cases : (t : Turn J) (q : Point J) (P : TurnEnd J → Type 0)
+      → ((a : Answer) → changesNothing a ≡ true → P (record { ending = rejected a; passed = 0; after = q }))
+      → ((x : Fault) (k : ℕ) (c : Core) → trapOnly (x .answer) ≡ true
+      → P (record { ending = trapped x; passed = k; after = record { state = c; vstart = q .vstart + k } }))
+      → ((c : Core) → P (record {
+        ending = paused;
+        passed = t .allowance;
+        after = record
+            { state = c; vstart = q .vstart + t .allowance };
+      }))
+      → ((c : Core) → P (record { ending = finished; passed = endOf p - q .vstart; after = record { state = c; vstart = 0 } }))
+      → P (turn J t q)
+  answer-cases t q P if-rejected if-trapped if-paused if-finished = turn-cases J t q P (record {
+    on-rejected = λ a e. if-rejected a (subst Rejecting e (rejection-rejects b p (t .rights) (q .state) (q .vstart)));
+    on-trapped = λ x k h l f e. if-trapped x k _ (subst Trapping e (effect-traps b p (t .rights) (q .state) (q .vstart + k)));
     on-paused = λ k h l e f. rw e (if-paused _);
-    on-finished = λ h l. if-finished _ _;
+    on-finished = λ h l. if-finished _;
   })
 
-  turn-named : (t : Turn J) (p : Point J) → answerOf (turn J t p .ending) ≡ NoGroup → ⊥
-  turn-named t p = answer-cases t p (λ o. answerOf (o .ending) ≡ NoGroup → ⊥)
-      (λ a h. apart isRefusal a NoGroup h refl)
-      (λ x k q h. apart trapOnly (x .answer) NoGroup h refl)
-      (λ q e. let z : _≡_ {A = ℕ} 0 1 = cc in omega arith)
-      (λ k q e. let z : _≡_ {A = ℕ} 0 1 = cc in omega arith)
+  turn-named : (t : Turn J) (q : Point J) → answerOf (turn J t q .ending) ≡ NoGroup → ⊥
+  turn-named t q = answer-cases t q (λ o. answerOf (o .ending) ≡ NoGroup → ⊥)
+      (λ a h. apart changesNothing a NoGroup h refl)
+      (λ x k c h. apart trapOnly (x .answer) NoGroup h refl)
+      (λ c e. let z : _≡_ {A = ℕ} 0 1 = cc in omega arith)
+      (λ c e. let z : _≡_ {A = ℕ} 0 1 = cc in omega arith)
 
-  turn-finished : (t : Turn J) (p : Point J) → answerOf (turn J t p .ending) ≡ Finished → turn J t p .ending ≡ finished
-  turn-finished t p = answer-cases t p (λ o. answerOf (o .ending) ≡ Finished → o .ending ≡ finished)
-      (λ a h e. absurd (apart isRefusal a Finished h refl e))
-      (λ x k q h e. absurd (apart trapOnly (x .answer) Finished h refl e))
-      (λ q e. absurd (let z : _≡_ {A = ℕ} 0 1 = cc in omega arith))
-      (λ k q e. refl)
+  turn-finished : (t : Turn J) (q : Point J) → answerOf (turn J t q .ending) ≡ Finished → turn J t q .ending ≡ finished
+  turn-finished t q = answer-cases t q (λ o. answerOf (o .ending) ≡ Finished → o .ending ≡ finished)
+      (λ a h e. absurd (apart changesNothing a Finished h refl e))
+      (λ x k c h e. absurd (apart trapOnly (x .answer) Finished h refl e))
+      (λ c e. absurd (let z : _≡_ {A = ℕ} 0 1 = cc in omega arith))
+      (λ c e. refl)
 
-  turns-finished : (t : Turn J) (us : List (Turn J)) (p : Point J) → answerOf (turns J t us p .ending) ≡ Finished
-      → turns J t us p .ending ≡ finished
+  turns-finished : (t : Turn J) (us : List (Turn J)) (q : Point J) → answerOf (turns J t us q .ending) ≡ Finished
+      → turns J t us q .ending ≡ finished
   unfolding turns
-  turns-finished t [] p h = turn-finished t p h
-  turns-finished t (u ∷ us) p h = turns-finished u us (turn J t p .after) h
+  turns-finished t [] q h = turn-finished t q h
+  turns-finished t (u ∷ us) q h = turns-finished u us (turn J t q .after) h
 
-  turn-unchanged : (n : ℕ) (s : State) → isRefusal (answerOf (ranOf b i n s .ending)) ≡ true
-      → outcomeOf b i (s .rights) (ranOf b i n s) ≡ record { answer = answerOf (ranOf b i n s .ending); passed = 0; address = 0; after = s }
-  turn-unchanged n s = answer-cases (turnWith b i (s .rights) n) (pointOf b i s)
-      (λ o. isRefusal (answerOf (o .ending)) ≡ true
-      → outcomeOf b i (s .rights) o ≡ record { answer = answerOf (o .ending); passed = 0; address = 0; after = s })
+  turn-unchanged : (n : ℕ) (s : State) → changesNothing (planTurn b p n s .answer) ≡ true
+      → planTurn b p n s ≡ untouched (planTurn b p n s .answer) s
+  turn-unchanged n s = answer-cases (turnWith (s .rights) n) (pointOf s)
+      (λ o. changesNothing (answerOf (o .ending)) ≡ true → outcomeOf b p (s .rights) o ≡ untouched (answerOf (o .ending)) s)
       (λ a h e. refl)
-      (λ x k q h e. absurd (apart not (isRefusal (x .answer)) true (both-right (isTrap (x .answer)) (not (isRefusal (x .answer))) h) refl e))
-      (λ q e. absurd (subst T (sym e) tt))
-      (λ k q e. absurd (subst T (sym e) tt))
+      (λ x k c h e.
+      absurd (apart not (changesNothing (x .answer)) true (both-right (isTrap (x .answer)) (not (changesNothing (x .answer))) h) refl e))
+      (λ c e. absurd (subst T (sym e) tt))
+      (λ c e. absurd (subst T (sym e) tt))
 
-  turn-progress : (t : Turn J) (p : Point J) → isRefusal (answerOf (turn J t p .ending)) ≡ false → 1 ≤ t .allowance
-      → (1 ≤ turn J t p .passed) ⊎ ((isTrap (answerOf (turn J t p .ending)) ≡ true) ⊎ (answerOf (turn J t p .ending) ≡ Finished))
-  turn-progress t p = answer-cases t p
-      (λ o. isRefusal (answerOf (o .ending)) ≡ false → 1 ≤ t .allowance
+  turn-progress : (t : Turn J) (q : Point J) → changesNothing (answerOf (turn J t q .ending)) ≡ false → 1 ≤ t .allowance
+      → (1 ≤ turn J t q .passed) ⊎ ((isTrap (answerOf (turn J t q .ending)) ≡ true) ⊎ (answerOf (turn J t q .ending) ≡ Finished))
+  turn-progress t q = answer-cases t q
+      (λ o. changesNothing (answerOf (o .ending)) ≡ false → 1 ≤ t .allowance
       → (1 ≤ o .passed) ⊎ ((isTrap (answerOf (o .ending)) ≡ true) ⊎ (answerOf (o .ending) ≡ Finished)))
       (λ a h e l. absurd (let z : _≡_ {A = ℕ} 0 1 = cc in omega arith))
-      (λ x k q h e l. inr (inl (both-left (isTrap (x .answer)) (not (isRefusal (x .answer))) h)))
-      (λ q e l. inl l)
-      (λ k q e l. inr (inr refl))
+      (λ x k c h e l. inr (inl (both-left (isTrap (x .answer)) (not (changesNothing (x .answer))) h)))
+      (λ c e l. inl l)
+      (λ c e l. inr (inr refl))
 
-pub demand1 : (b : Board) → Demand1 b
+  turn-advances : (t : Turn J) (q : Point J) → changesNothing (answerOf (turn J t q .ending)) ≡ false
+      → (answerOf (turn J t q .ending) ≡ Finished → ⊥) → turn J t q .after .vstart ≡ q .vstart + turn J t q .passed
+  turn-advances t q = answer-cases t q
+      (λ o. changesNothing (answerOf (o .ending)) ≡ false → (answerOf (o .ending) ≡ Finished → ⊥)
+      → o .after .vstart ≡ q .vstart + o .passed)
+      (λ a h e u. absurd (let z : _≡_ {A = ℕ} 0 1 = cc in omega arith))
+      (λ x k c h e u. refl)
+      (λ c e u. refl)
+      (λ c e u. absurd (u refl))
+
+  turn-remained : (t : Turn J) (q : Point J) → answerOf (turn J t q .ending) ≡ Finished
+      → (turn J t q .passed ≡ endOf p - q .vstart) × (turn J t q .after .vstart ≡ 0)
+  turn-remained t q = answer-cases t q
+      (λ o. answerOf (o .ending) ≡ Finished → (o .passed ≡ endOf p - q .vstart) × (o .after .vstart ≡ 0))
+      (λ a h e. absurd (apart changesNothing a Finished h refl e))
+      (λ x k c h e. absurd (apart trapOnly (x .answer) Finished h refl e))
+      (λ c e. absurd (let z : _≡_ {A = ℕ} 0 1 = cc in omega arith))
+      (λ c e. (refl, refl))
+
+  turn-refused : (n : ℕ) (s : State) (a : Answer) → refusalAt b (s .rights) (coreOf s) (s .control .vstart) ≡ Refused a
+      → planTurn b p n s ≡ untouched a s
+  unfolding rejectionAt
+  turn-refused n s a h = ap (outcomeOf b p (s .rights)) (turn-rejected J (turnWith (s .rights) n) (pointOf s) a (rw h))
+
+pub demand-1 : (b : Board) → Demand1 b
 unfolding turnOf
-demand1 b = record {
-  named = λ word n s. turn-named b (decodeOf word) (turnWith b (decodeOf word) (s .rights) n) (pointOf b (decodeOf word) s);
-  unchanged = λ word. turn-unchanged b (decodeOf word);
+demand-1 b = record {
+  named = λ word n s. turn-named b (planAt b word s) (turnWith b (planAt b word s) (s .rights) n) (pointOf b (planAt b word s) s);
+  refuses = λ word n s. turn-refused b (planAt b word s) n s;
+  unchanged = λ word n s. turn-unchanged b (planAt b word s) n s;
+}
+
+pub counted : (b : Board) → Counts b
+unfolding turnOf
+counted b = record {
+  advance = λ word n s. turn-advances b (planAt b word s) (turnWith b (planAt b word s) (s .rights) n) (pointOf b (planAt b word s) s);
+  remained = λ word n s. turn-remained b (planAt b word s) (turnWith b (planAt b word s) (s .rights) n) (pointOf b (planAt b word s) s);
 }
 
 -- ---- from one turn to the next: vstart of the record of a `Core` is 0, and stays so
@@ -192,30 +249,63 @@ unfolding putOf
 put-vstart b (toRegisters g i r) s h = h
 put-vstart b (toMemory a n x) s h = h
 
-pub set-vstart : (b : Board) (c : Control) (v : ℕ) (a : Avl) → setOf b c v a .vstart ≡ 0
+set-vstart : (b : Board) (c : Control) (v : ℕ) (a : Avl) → setOf b c v a .vstart ≡ 0
 unfolding setOf
 set-vstart b c v (To avl) = either (λ (c : Control). c .vstart ≡ 0) (supportedOf b v) _ _ (λ t. refl) (λ t. refl)
 set-vstart b c v Keep = either (λ (c : Control). c .vstart ≡ 0) (supportedOf b v && keepsOf b c v) _ _ (λ t. refl) (λ t. refl)
 
-mask-vstart : (b : Board) (m : MaskInstruction) (s : Core) (o : MaskOp) → s .control .vstart ≡ 0 → maskResult b m s o .control .vstart ≡ 0
+mask-vstart : (vlenb vl : ℕ) (m : MaskInstruction) (s : Core) (o : MaskOp) → s .control .vstart ≡ 0
+    → maskResult vlenb vl m s o .control .vstart ≡ 0
 unfolding maskResult
-mask-vstart b m s Vcpop h = h
-mask-vstart b m s Vfirst h = h
-mask-vstart b m s Vmsbf h = h
-mask-vstart b m s Vmsof h = h
-mask-vstart b m s Vmsif h = h
+mask-vstart vlenb vl m s Vcpop h = h
+mask-vstart vlenb vl m s Vfirst h = h
+mask-vstart vlenb vl m s Vmsbf h = h
+mask-vstart vlenb vl m s Vmsof h = h
+mask-vstart vlenb vl m s Vmsif h = h
 
-result-vstart : (b : Board) (i : Decoded.Instruction) (s : Core) → s .control .vstart ≡ 0 → resultAt b i s .control .vstart ≡ 0
-unfolding resultAt settingResult
-result-vstart b I.Illegal s h = h
-result-vstart b (I.Setting t) s h = set-vstart b (s .control) (typeFrom (s .scalars) (t .vtype)) (avlFrom (s .scalars) (t .avl))
-result-vstart b (I.Mask m) s h = mask-vstart b m s (m .op) h
-result-vstart b (I.Arithmetic a) s h = h
-result-vstart b (I.Memory a) s h = h
+pub result-vstart : (b : Board) (p : Plan) (s : Core) → s .control .vstart ≡ 0 → resultAt b p s .control .vstart ≡ 0
+unfolding oneTurnResult settingResult
+result-vstart b P.Illegal s h = h
+result-vstart b (P.OneTurn (O.Setting t)) s h = set-vstart b (s .control) (typeFrom (s .scalars) (t .vtype)) (avlFrom (s .scalars) (t .avl))
+result-vstart b (P.OneTurn (O.Mask m)) s h = mask-vstart (b .vlenb) (s .control .vl) m s (m .op) h
+result-vstart b (P.Elements e) s h = h
 
-module _ (b : Board) (i : Decoded.Instruction) where
-  point-left : (r r′ : List ℕ) (q : Point (J b i)) → q .state .control .vstart ≡ 0
-      → pointOf b i (withRights r′ (stateOf r (q .state) (q .vstart))) ≡ q
+-- ---- the plan goes by neither vstart nor vxsat, so that it is the same in each turn
+
+abbrev besides : Control → ℕ → ℕ → Control
+besides c v q = withVxsat (withVstart c v) q
+
+mode-besides : (b : Board) (x : List ℕ) (c : Control) (a : Access) (v q : ℕ) (m : Mode) → byMode b x (besides c v q) a m ≡ byMode b x c a m
+unfolding byMode
+mode-besides b x c a v q M.UnitStride = refl
+mode-besides b x c a v q (M.Strided r) = refl
+mode-besides b x c a v q (M.Indexed r) = refl
+mode-besides b x c a v q M.MaskBytes = refl
+mode-besides b x c a v q (M.Whole n) = refl
+
+plan-besides : (b : Board) (x : List ℕ) (c : Control) (v q : ℕ) (i : Instruction) → planOf b x (besides c v q) i ≡ planOf b x c i
+unfolding planOf shapedOf
+plan-besides b x c v q I.Illegal = refl
+plan-besides b x c v q (I.Setting t) = refl
+plan-besides b x c v q (I.Mask m) = refl
+plan-besides b x c v q (I.Arithmetic a) = refl
+plan-besides b x c v q (I.Memory a) = ap P.Elements (mode-besides b x c a v q (a .mode))
+
+put-plan : (b : Board) (i : Instruction) (p : Plan) (w : Write) (s : Core) → planOf b (s .scalars) (s .control) i ≡ p
+    → planOf b (putOf b w s .scalars) (putOf b w s .control) i ≡ p
+unfolding putOf
+put-plan b i p (toRegisters g k x) s h = plan-besides b (s .scalars) (s .control) (s .control .vstart) _ i ∙ h
+put-plan b i p (toMemory a n x) s h = h
+
+-- ---- a list of turns of a word whose plan is p
+
+module _ (b : Board) (p : Plan) where
+  -- the state that a turn with other rights gets after a turn of n from s: the point that this one left
+  abbrev following : ℕ → State → List ℕ → State
+  following n s r = withRights r (planTurn b p n s .after)
+
+  point-left : (r r′ : List ℕ) (q : Point (J b p)) → q .state .control .vstart ≡ 0
+      → pointOf b p (withRights r′ (stateOf r (q .state) (q .vstart))) ≡ q
   point-left r r′ q h = λ j. record {
     state = record {
       registers = q .state .registers;
@@ -226,91 +316,176 @@ module _ (b : Board) (i : Decoded.Instruction) where
     vstart = q .vstart;
   }
 
-  -- the state that a turn with other rights gets after a turn of n from s: the point that this one left
-  abbrev following : ℕ → State → List ℕ → State
-  following n s r = withRights r (outcomeOf b i (s .rights) (ranOf b i n s) .after)
+  following-point : (n : ℕ) (s : State) (r : List ℕ) → pointOf b p (following n s r) ≡ ranOf b p n s .after
+  following-point n s r = point-left (s .rights) r (ranOf b p n s .after)
+      (turn-keeps (J b p) (λ c. c .control .vstart ≡ 0) (put-vstart b) (result-vstart b p) (turnWith b p (s .rights) n)
+      (pointOf b p s) refl)
 
-  following-point : (n : ℕ) (s : State) (r : List ℕ) → pointOf b i (following n s r) ≡ ranOf b i n s .after
-  following-point n s r = point-left (s .rights) r (ranOf b i n s .after)
-      (turn-keeps (J b i) (λ c. c .control .vstart ≡ 0) (put-vstart b) (result-vstart b i) (turnWith b i (s .rights) n) (pointOf b i s) refl)
+  following-plan : (word n : ℕ) (s : State) (r : List ℕ) → planAt b word s ≡ p → (ranOf b p n s .ending ≡ finished → ⊥)
+      → planAt b word (following n s r) ≡ p
+  following-plan word n s r e u =
+      let q : Point (J b p) = ranOf b p n s .after in
+      plan-besides b (q .state .scalars) (q .state .control) (q .vstart) (q .state .control .vxsat) (decodeOf word)
+      ∙ unfinished-keeps (J b p) (λ c. planOf b (c .scalars) (c .control) (decodeOf word) ≡ p) (put-plan b (decodeOf word) p)
+      (turnWith b p (s .rights) n) (pointOf b p s) u
+      (plan-besides b (s .scalars) (s .control) 0 (s .control .vxsat) (decodeOf word) ∙ e)
 
   -- the turns after the first
-  abbrev later : List Next → List (Turn (J b i))
+  abbrev later : List Next → List (Turn (J b p))
   later [] = []
-  later (u ∷ us) = turnWith b i (u .rights) (u .allowance) ∷ later us
+  later (u ∷ us) = turnWith b p (u .rights) (u .allowance) ∷ later us
 
-  later-rights : (r : List ℕ) (n : ℕ) (us : List Next) → Turn.lastRights (J b i) (turnWith b i r n) (later us) ≡ lastRights r us
+  later-rights : (r : List ℕ) (n : ℕ) (us : List Next) → finalRights (J b p) (turnWith b p r n) (later us) ≡ lastRights r us
   later-rights r n [] = refl
   later-rights r n (u ∷ us) = later-rights (u .rights) (u .allowance) us
 
   -- a first turn of n from s, and then the turns us
-  abbrev ranTurns : State → ℕ → List Next → Turn.Outcome (J b i)
-  ranTurns s n us = turns (J b i) (turnWith b i (s .rights) n) (later us) (pointOf b i s)
+  abbrev ranTurns : State → ℕ → List Next → TurnEnd (J b p)
+  ranTurns s n us = turns (J b p) (turnWith b p (s .rights) n) (later us) (pointOf b p s)
 
-  outcome-finished : (r : List ℕ) (o : Turn.Outcome (J b i)) → o .ending ≡ finished
-      → outcomeOf b i r o ≡ record { answer = Finished; passed = o .passed; address = 0; after = stateOf r (o .after .state) (o .after .vstart) }
+  outcome-finished : (r : List ℕ) (o : TurnEnd (J b p)) → o .ending ≡ finished
+      → outcomeOf b p r o
+      ≡ record { answer = Finished; passed = o .passed; place = nowhere; after = stateOf r (o .after .state) (o .after .vstart) }
   outcome-finished r o e = rw e
 
-  opens : Lawful (J b i) → (r r′ : List ℕ) (t : Bool) → (r′ ≡ r) ⊎ ((t ≡ true) × Opened r r′) → Opened r r′
-  opens L r r′ t (inl e) = rw e (L .opens-refl r)
-  opens L r r′ t (inr h) = h .1
+opens : (r r′ : List ℕ) (t : Bool) → (r′ ≡ r) ⊎ ((t ≡ true) × Opened r r′) → Opened r r′
+opens r r′ t (inl e) = rw e (opened-refl r)
+opens r r′ t (inr h) = h .1
 
--- ---- demand 3
+-- one turn more in front
+abbrev joined : Outcome → Outcome → Outcome
+joined o q = record { answer = q .answer; passed = o .passed + q .passed; place = q .place; after = q .after }
+
+refused-again : {A : Type 0} (a : Answer) (r r′ : List ℕ) → refusalOnly a ≡ true → (r′ ≡ r → A)
+    → (r′ ≡ r) ⊎ ((isTrap a ≡ true) × Opened r r′) → A
+refused-again a r r′ k f (inl e) = f e
+refused-again a r r′ k f (inr h) = absurd (apart not (isTrap a) true (both-right (changesNothing a) (not (isTrap a)) k) refl (h .0))
+
 module _ (b : Board) (word : ℕ) where
-  abbrev i : Decoded.Instruction
-  i = decodeOf word
-
-  turns-are : (s : State) (n : ℕ) (us : List Next) → turnsOf b word s n us ≡ outcomeOf b i (lastRights (s .rights) us) (ranTurns b i s n us)
-  unfolding turnsOf turnOf turns
-  turns-are s n [] = refl
-  turns-are s n (u ∷ us) =
-      ap (λ (q : Outcome). record { answer = q .answer; passed = ranOf b i n s .passed + q .passed; address = q .address; after = q .after })
-      (turns-are (following b i n s (u .rights)) (u .allowance) us
-      ∙ ap (λ p. outcomeOf b i (lastRights (u .rights) us) (turns (J b i) (turnWith b i (u .rights) (u .allowance)) (later b i us) p))
-      (following-point b i n s (u .rights)))
-
-  proceeds-unfinished : (s : State) (n : ℕ) (us : List Next) → Proceeds b word s n us
-      → NoneFinishes (J b i) (turnWith b i (s .rights) n) (later b i us) (pointOf b i s)
+  turn-is : (p : Plan) (n : ℕ) (s : State) → planAt b word s ≡ p → turnOf b word n s ≡ planTurn b p n s
   unfolding turnOf
-  proceeds-unfinished s n [] h = tt
-  proceeds-unfinished s n (u ∷ us) h = (
-    λ e. h .1 .0 (ap answerOf e),
-    subst (NoneFinishes (J b i) (turnWith b i (u .rights) (u .allowance)) (later b i us)) (following-point b i n s (u .rights))
-        (proceeds-unfinished (following b i n s (u .rights)) (u .allowance) us (h .1 .1 .1)),
-  )
+  turn-is p n s e = ap (λ (q : Plan). planTurn b q n s) e
 
-  module _ (L : Lawful (J b i)) where
-    proceeds-opening : (s : State) (n : ℕ) (us : List Next) → Proceeds b word s n us → Opening (J b i) (turnWith b i (s .rights) n) (later b i us)
-    unfolding turnOf
-    proceeds-opening s n [] h = tt
-    proceeds-opening s n (u ∷ us) h =
-        (opens b i L (s .rights) (u .rights) _ (h .1 .1 .0), proceeds-opening (following b i n s (u .rights)) (u .allowance) us (h .1 .1 .1))
+  -- what a list of turns goes on to after its first, of which the plan is p
+  record Goes (p : Plan) (n : ℕ) (s : State) (u : Next) (us : List Next) : Type 0 where
+    unfinished : ranOf b p n s .ending ≡ finished → ⊥
+    opened : Opened (s .rights) (u .rights)
+    next : planAt b word (following b p n s (u .rights)) ≡ p
+    rest : Proceeds b word (following b p n s (u .rights)) (u .allowance) us
 
-    uncut-turns : (n : ℕ) (s : State) (us : List Next) → Proceeds b word s n us → turnsOf b word s n us .answer ≡ Finished
-        → turnOf b word (2 ^ 32 - 1) (withRights (lastRights (s .rights) us) s) ≡ turnsOf b word s n us
-    unfolding turnOf
-    uncut-turns n s us h f =
-        let t : Turn (J b i) = turnWith b i (s .rights) n in
-        let e : ranTurns b i s n us .ending ≡ finished =
-        turns-finished b i t (later b i us) (pointOf b i s) (sym (ap (λ (o : Outcome). o .answer) (turns-are s n us)) ∙ f) in
-        sym (turns-are s n us
-        ∙ ap (outcomeOf b i (lastRights (s .rights) us))
-        (uncut (J b i) L t (later b i us) (pointOf b i s) (proceeds-opening s n us h) (proceeds-unfinished s n us h) e
-        ∙ ap (λ r. uncutRun (J b i) r (pointOf b i s)) (later-rights b i (s .rights) n us)))
+  goes : (p : Plan) (n : ℕ) (s : State) (u : Next) (us : List Next) → planAt b word s ≡ p → Proceeds b word s n (u ∷ us) → Goes p n s u us
+  goes p n s u us e h =
+      let unended : ranOf b p n s .ending ≡ finished → ⊥ =
+      λ f. h .1 .0 (ap (λ (o : Outcome). o .answer) (turn-is p n s e) ∙ ap answerOf f) in
+      record {
+        unfinished = unended;
+        opened = opens (s .rights) (u .rights) _ (subst (λ (o : Outcome). Between o u) (turn-is p n s e) (h .1 .1 .0));
+        next = following-plan b p word n s (u .rights) e unended;
+        rest =
+            subst (λ (o : Outcome). Proceeds b word (withRights (u .rights) (o .after)) (u .allowance) us) (turn-is p n s e) (h .1 .1 .1);
+      }
 
-    wider-turn : (n m : ℕ) (s : State) (r : List ℕ) → n ≤ m → Opened (s .rights) r → turnOf b word n s .answer ≡ Finished
-        → turnOf b word m (withRights r s)
-        ≡ record { answer = Finished; passed = turnOf b word n s .passed; address = 0; after = withRights r (turnOf b word n s .after) }
-    unfolding turnOf
-    wider-turn n m s r l o f =
-        let t : Turn (J b i) = turnWith b i (s .rights) n in
-        let e : ranOf b i n s .ending ≡ finished = turn-finished b i t (pointOf b i s) f in
-        ap (outcomeOf b i r) (monotone (J b i) L t (turnWith b i r m) (pointOf b i s) o l e) ∙ outcome-finished b i r (ranOf b i n s) e
+  turns-are : (p : Plan) (s : State) (n : ℕ) (us : List Next) → planAt b word s ≡ p → Proceeds b word s n us
+      → turnsOf b word s n us ≡ outcomeOf b p (lastRights (s .rights) us) (ranTurns b p s n us)
+  unfolding turnsOf turns
+  turns-are p s n [] e h = turn-is p n s e
+  turns-are p s n (u ∷ us) e h =
+      let g = goes p n s u us e h in
+      ap (λ (o : Outcome). joined o (turnsOf b word (withRights (u .rights) (o .after)) (u .allowance) us)) (turn-is p n s e)
+      ∙ ap (joined (planTurn b p n s))
+      (turns-are p (following b p n s (u .rights)) (u .allowance) us (g .next) (g .rest)
+      ∙ ap (λ z. outcomeOf b p (lastRights (u .rights) us) (turns (J b p) (turnWith b p (u .rights) (u .allowance)) (later b p us) z))
+      (following-point b p n s (u .rights)))
 
-pub demand3-lawful : (b : Board) → ((word : ℕ) → Lawful (instructionOf b (decodeOf word))) → Demand3 b
+  proceeds-unfinished : (p : Plan) (s : State) (n : ℕ) (us : List Next) → planAt b word s ≡ p → Proceeds b word s n us
+      → NoneFinishes (J b p) (turnWith b p (s .rights) n) (later b p us) (pointOf b p s)
+  proceeds-unfinished p s n [] e h = tt
+  proceeds-unfinished p s n (u ∷ us) e h =
+      let g = goes p n s u us e h in (
+        g .unfinished,
+        subst (NoneFinishes (J b p) (turnWith b p (u .rights) (u .allowance)) (later b p us)) (following-point b p n s (u .rights))
+            (proceeds-unfinished p (following b p n s (u .rights)) (u .allowance) us (g .next) (g .rest)),
+      )
+
+  proceeds-opening : (p : Plan) (s : State) (n : ℕ) (us : List Next) → planAt b word s ≡ p → Proceeds b word s n us
+      → Opening (J b p) (turnWith b p (s .rights) n) (later b p us)
+  proceeds-opening p s n [] e h = tt
+  proceeds-opening p s n (u ∷ us) e h =
+      let g = goes p n s u us e h in
+      (g .opened, proceeds-opening p (following b p n s (u .rights)) (u .allowance) us (g .next) (g .rest))
+
+  -- a state that is refused stays refused: no page is opened after a refusal
+  refused-always : (a : Answer) (s : State) (n : ℕ) (us : List Next) → refusalOnly a ≡ true
+      → refusalAt b (s .rights) (coreOf s) (s .control .vstart) ≡ Refused a → Proceeds b word s n us → turnsOf b word s n us .answer ≡ a
+  unfolding turnsOf
+  refused-always a s n [] k h q = ap (λ (o : Outcome). o .answer) (demand-1 b .refuses word n s a h)
+  refused-always a s n (u ∷ us) k h q =
+      let e : turnOf b word n s ≡ untouched a s = demand-1 b .refuses word n s a h in
+      let again : (u .rights ≡ s .rights) ⊎ ((isTrap a ≡ true) × Opened (s .rights) (u .rights)) =
+      subst (λ (o : Outcome). Between o u) e (q .1 .1 .0) in
+      ap (λ (o : Outcome). turnsOf b word (withRights (u .rights) (o .after)) (u .allowance) us .answer) e
+      ∙ refused-again a (s .rights) (u .rights) k (λ r. refused-always a (withRights (u .rights) s) (u .allowance) us k (rw r h)
+      (subst (λ (o : Outcome). Proceeds b word (withRights (u .rights) (o .after)) (u .allowance) us) e (q .1 .1 .1))) again
+
+module _ (b : Board) (w : Valid b) (word : ℕ) where
+  -- a state that is not refused
+  abbrev Admitted : State → Type 0
+  Admitted s = refusalAt b (s .rights) (coreOf s) (s .control .vstart) ≡ Accepted
+
+  lawful-at : (s : State) → Admitted s → Lawful (J b (planAt b word s))
+  lawful-at s h =
+      lawful b w (planAt b word s)
+      (plan-sound b (s .scalars) (s .control) (decodeOf word) w
+      (possible-apart b (s .control) (accepted-facts b _ _ _ (s .rights) _ h .possible))
+      (fits word))
+
+  uncut-turns : (n : ℕ) (s : State) (us : List Next) → Proceeds b word s n us → turnsOf b word s n us .answer ≡ Finished → Admitted s
+      → turnOf b word (2 ^ 32 - 1) (withRights (lastRights (s .rights) us) s) ≡ turnsOf b word s n us
+  unfolding turnOf
+  uncut-turns n s us h f y =
+      let p : Plan = planAt b word s in
+      let t : Turn (J b p) = turnWith b p (s .rights) n in
+      let are = turns-are b word p s n us refl h in
+      let e : ranTurns b p s n us .ending ≡ finished =
+      turns-finished b p t (later b p us) (pointOf b p s) (sym (ap (λ (o : Outcome). o .answer) are) ∙ f) in
+      sym (are
+      ∙ ap (outcomeOf b p (lastRights (s .rights) us))
+      (uncut (J b p) (lawful-at s y) t (later b p us) (pointOf b p s) (proceeds-opening b word p s n us refl h)
+      (proceeds-unfinished b word p s n us refl h) e
+      ∙ ap (λ r. uncutRun (J b p) r (pointOf b p s)) (later-rights b p (s .rights) n us)))
+
+  uncut-any : (n : ℕ) (s : State) (us : List Next) → Proceeds b word s n us → turnsOf b word s n us .answer ≡ Finished
+      → turnOf b word (2 ^ 32 - 1) (withRights (lastRights (s .rights) us) s) ≡ turnsOf b word s n us
+  uncut-any n s us h f = go (refusalAt b (s .rights) (coreOf s) (s .control .vstart)) refl (board-refuses b _ _ _ (s .rights) _)
+    where
+      go : (v : Verdict) → refusalAt b (s .rights) (coreOf s) (s .control .vstart) ≡ v → Refuses refusalOnly v
+          → turnOf b word (2 ^ 32 - 1) (withRights (lastRights (s .rights) us) s) ≡ turnsOf b word s n us
+      go Accepted e k = uncut-turns n s us h f e
+      go (Refused a) e (refuses k) = absurd (apart refusalOnly a Finished k refl (sym (refused-always b word a s n us k e h) ∙ f))
+
+  wider-turn : (n m : ℕ) (s : State) (r : List ℕ) → n ≤ m → Opened (s .rights) r → turnOf b word n s .answer ≡ Finished
+      → turnOf b word m (withRights r s)
+      ≡ record { answer = Finished; passed = turnOf b word n s .passed; place = nowhere; after = withRights r (turnOf b word n s .after) }
+  unfolding turnOf
+  wider-turn n m s r l o f = go (refusalAt b (s .rights) (coreOf s) (s .control .vstart)) refl (board-refuses b _ _ _ (s .rights) _)
+    where
+      p : Plan
+      p = planAt b word s
+
+      go : (v : Verdict) → refusalAt b (s .rights) (coreOf s) (s .control .vstart) ≡ v → Refuses refusalOnly v
+          → planTurn b p m (withRights r s)
+          ≡ record { answer = Finished; passed = planTurn b p n s .passed; place = nowhere; after = withRights r (planTurn b p n s .after) }
+      go Accepted y k =
+          let e : ranOf b p n s .ending ≡ finished = turn-finished b p (turnWith b p (s .rights) n) (pointOf b p s) f in
+          ap (outcomeOf b p r) (monotone (J b p) (lawful-at s y) (turnWith b p (s .rights) n) (turnWith b p r m) (pointOf b p s) o l e)
+          ∙ outcome-finished b p r (ranOf b p n s) e
+      go (Refused a) y (refuses k) =
+          absurd (apart refusalOnly a Finished k refl (sym (ap (λ (z : Outcome). z .answer) (turn-refused b p n s a y)) ∙ f))
+
+pub demand-3 : (b : Board) → Valid b → Demand3 b
 unfolding turnOf
-demand3-lawful b L = record {
-  uncut = λ word. uncut-turns b word (L word);
-  progress = λ word n s. turn-progress b (decodeOf word) (turnWith b (decodeOf word) (s .rights) n) (pointOf b (decodeOf word) s);
-  monotone = λ word. wider-turn b word (L word);
+demand-3 b w = record {
+  uncut = λ word. uncut-any b w word;
+  progress = λ word n s. turn-progress b (planAt b word s) (turnWith b (planAt b word s) (s .rights) n) (pointOf b (planAt b word s) s);
+  monotone = λ word. wider-turn b w word;
 }

@@ -7,7 +7,8 @@ use mathlib.Core.List.{List, [], _∷_}
 use mathlib.Core.Bool.{true, not, _||_}
 use native.Mathlib.Omega.{arith}
 use native.Mathlib.Decide.{decLt}
-use native.Mathlib.Nat.{mul-le-mul-left, mul-le-mul-right, eq-of-mul-eq-mul-right, le-of-mul-le-mul-right, div-eq-of-lt, div-add-mod', div-le-of-le-mul, mod-lt, le-of-suc-le-suc, not-suc-le-zero}
+use native.Mathlib.Nat.{mul-le-mul-left, mul-le-mul-right, eq-of-mul-eq-mul-right, le-of-mul-le-mul-right, div-eq-of-lt, div-add-mod'}
+use native.Mathlib.Nat.{div-le-of-le-mul, mod-lt, le-of-suc-le-suc, not-suc-le-zero}
 use lib.ListN.{length, getD}
 use lib.Dec.{T, leb, eqb, lit<}
 use lib.Pow.{pow-lt, pow-add, pow-mono, shl-shr}
@@ -21,8 +22,9 @@ use Rattle.layout.specs.Layout.{elementWidth}
 use Rattle.layout.proofs.ElementLaws.{Apart}
 use Rattle.group.specs.declared.Group.{Group}
 use Rattle.group.specs.Group.{emul8Of, maskGroup, registersOf, placedOf, mayOverlapOf}
-use Rattle.group.proofs.GroupLaws.{Placed, placed-facts, MayOverlap, below, above, equal, lowest, highest, overlap-cases, same-or-apart, ends-inside}
-use Rattle.elementwise.specs.Elementwise.{groupAt}
+use Rattle.group.proofs.GroupLaws.{Placed, placed-facts, MayOverlap, below, above, equal, lowest, highest, overlap-cases, same-or-apart}
+use Rattle.group.proofs.GroupLaws.{ends-inside}
+use Rattle.plan.specs.Plan.{groupAt}
 
 -- ---- powers of 2
 
@@ -100,8 +102,25 @@ sew-power v =
 -- 0 stands for the reserved vlmul
 lmul8-power : (v : ℕ) → 1 ≤ lmul8Of v → Power (lmul8Of v)
 lmul8-power v =
-    entry (λ n. 1 ≤ n → Power n) (8 ∷ 16 ∷ 32 ∷ 64 ∷ 0 ∷ 1 ∷ 2 ∷ 4 ∷ []) (v % 8)
-    ((λ h. power-of 3), ((λ h. power-of 4), ((λ h. power-of 5), ((λ h. power-of 6), ((λ h. absurd (omega arith)), ((λ h. power-of 0), ((λ h. power-of 1), ((λ h. power-of 2), tt))))))))
+    entry (λ n. 1 ≤ n → Power n) (8 ∷ 16 ∷ 32 ∷ 64 ∷ 0 ∷ 1 ∷ 2 ∷ 4 ∷ []) (v % 8) (
+      (λ h. power-of 3),
+      (
+        (λ h. power-of 4),
+        (
+          (λ h. power-of 5),
+          (
+            (λ h. power-of 6),
+            (
+              (λ h. absurd (omega arith)),
+              (
+                (λ h. power-of 0),
+                ((λ h. power-of 1), ((λ h. power-of 2), tt)),
+              ),
+            ),
+          ),
+        ),
+      ),
+    )
     (mod-lt v (lit< tt))
 
 -- ---- VLMAX elements fill a group
@@ -153,7 +172,8 @@ placed-ends elen g p t l =
     ends-inside g (p .exponent) (exponent-le (g .emul8) (p .exponent) (p .is) (f .emul-high)) (p .is) l (f .aligned)
 
 pub mask-extent : (b : Board) (v reg : ℕ) → Extent (vlmaxOf b v) (b .vlenb) (maskGroup reg)
-mask-extent b v reg = record { width = tt; aligned = omega arith; within = omega (arith, vlmax-le b v); full = λ l. omega arith; ends = λ l. omega arith }
+mask-extent b v reg =
+    record { width = tt; aligned = omega arith; within = omega (arith, vlmax-le b v); full = λ l. omega arith; ends = λ l. omega arith }
 
 -- of a group at a supported vtype
 module _ (b : Board) (v : ℕ) (w : Valid b) (h : supportedOf b v ≡ true) (eew : ℕ) (p : Power eew) where
@@ -162,7 +182,8 @@ module _ (b : Board) (v : ℕ) (w : Valid b) (h : supportedOf b v ≡ true) (eew
 
   emul8-quotient : 1 ≤ emul8 → Quotient (eew * lmul8Of v) (sewOf v)
   unfolding emul8Of
-  emul8-quotient l = quotient (eew * lmul8Of v) (sewOf v) (product-power eew (lmul8Of v) p (lmul8-power v (lmul8-pos b v w h))) (sew-power v) l
+  emul8-quotient l =
+      quotient (eew * lmul8Of v) (sewOf v) (product-power eew (lmul8Of v) p (lmul8-power v (lmul8-pos b v w h))) (sew-power v) l
 
   filled : 1 ≤ emul8 → vlmaxOf b v * eew ≡ emul8 * b .vlenb
   unfolding emul8Of
@@ -179,7 +200,8 @@ module _ (b : Board) (v : ℕ) (w : Valid b) (h : supportedOf b v ≡ true) (eew
     g = groupAt v eew reg
 
     -- a group of one register may have room to spare
-    extent-if : T (elementWidth eew) → g .reg % registersOf g ≡ 0 → (emul8 < 8 → vlmaxOf b v * eew ≤ 8 * b .vlenb) → (reg < 32 → reg + registersOf g ≤ 32)
+    extent-if : T (elementWidth eew) → g .reg % registersOf g ≡ 0 → (emul8 < 8 → vlmaxOf b v * eew ≤ 8 * b .vlenb)
+        → (reg < 32 → reg + registersOf g ≤ 32)
         → Extent (vlmaxOf b v) (b .vlenb) g
     extent-if t a small ends = record { width = t; aligned = a; within = by-size (decLt emul8 8); full = full; ends = ends } where
       full : 8 ≤ emul8 → vlmaxOf b v * eew ≡ registersOf g * (8 * b .vlenb)
@@ -203,7 +225,12 @@ module _ (b : Board) (v : ℕ) (w : Valid b) (h : supportedOf b v ≡ true) (eew
     bit-extent : eew ≡ 1 → Extent (vlmaxOf b v) (b .vlenb) g
     unfolding emul8Of
     bit-extent e =
-        extent-if (subst (λ n. T (elementWidth n)) (sym e) tt) (ap (λ (n : ℕ). reg % n) one ∙ mod-one) (λ l. omega (arith, vlmax-le b v, ap (λ (n : ℕ). vlmaxOf b v * n) e)) (λ l. omega (arith, one))
+        extent-if (subst (λ n. T (elementWidth n)) (sym e) tt) (ap (λ (n : ℕ). reg % n) one ∙ mod-one) (λ l. omega (
+          arith,
+          vlmax-le b v,
+          ap
+              (λ (n : ℕ). vlmaxOf b v * n) e,
+        )) (λ l. omega (arith, one))
       where
         most : emul8 ≤ 8
         most = div-le-of-le-mul (sewOf v) (omega (arith, ap (λ (n : ℕ). n * lmul8Of v) e, lmul8-le v, sew-ge v))
@@ -220,7 +247,8 @@ module _ (b : Board) (v : ℕ) (w : Valid b) (h : supportedOf b v ≡ true) (eew
 -- ---- the overlap rule
 
 -- groups of equal EEW have as many registers
-same-registers : (vlmax vlenb : ℕ) (d g : Group) → 1 ≤ vlenb → Extent vlmax vlenb d → Extent vlmax vlenb g → d .eew ≡ g .eew → registersOf d ≡ registersOf g
+same-registers : (vlmax vlenb : ℕ) (d g : Group) → 1 ≤ vlenb → Extent vlmax vlenb d → Extent vlmax vlenb g → d .eew ≡ g .eew
+    → registersOf d ≡ registersOf g
 same-registers vlmax vlenb d g u x y e =
     by-size (decLt (d .emul8) 8) (decLt (g .emul8) 8)
   where
@@ -267,12 +295,22 @@ overlap-apart vlmax vlenb d g j i u x y l m h = by-case (overlap-cases d g h)
     lowest-apart t e = inl (omega (arith, before (d .eew), mul-le-mul-left i t, ap (λ (n : ℕ). vlenb * n) e))
 
     -- counted from the end of both, at a smaller EEW
-    highest-apart : g .eew < d .eew → g .reg + registersOf g ≡ d .reg + registersOf d → 8 ≤ g .emul8 → Apart vlenb (d .reg) (d .eew) j (g .reg) (g .eew) i
+    highest-apart : g .eew < d .eew → g .reg + registersOf g ≡ d .reg + registersOf d → 8 ≤ g .emul8
+        → Apart vlenb (d .reg) (d .eew) j (g .reg) (g .eew) i
     highest-apart t e k =
         let z : ℕ = d .eew - g .eew in
         let q : d .eew ≡ g .eew + z = omega arith in
         let less : i * z ≤ vlmax * z = mul-le-mul-right z (omega arith) in
-        inl (omega (arith, before (d .eew), x .within, y .full k, ap (λ (n : ℕ). n * (8 * vlenb)) e, ap (λ (n : ℕ). i * n) q, ap (λ (n : ℕ). vlmax * n) q))
+        inl (omega (
+          arith,
+          before (d .eew),
+          x .within,
+          y .full k,
+          ap (λ (n : ℕ). n * (8 * vlenb)) e,
+          ap (λ (n : ℕ). i * n) q,
+          ap (λ
+              (n : ℕ). vlmax * n) q,
+        ))
 
     by-case : MayOverlap d g → Apart vlenb (d .reg) (d .eew) j (g .reg) (g .eew) i
     by-case (below t) = below-apart t

@@ -1,5 +1,5 @@
 pub mod Geometry
-pub mod ElementwiseFacts
+pub mod PlanFacts
 pub mod EffectLaws
 pub mod Lawful
 pub mod Demands

@@ -2,4 +2,5 @@ pub mod State
 pub mod Effect
 pub mod OneTurn
 pub mod Machine
+pub mod Call
 pub mod Demands

@@ -19,8 +19,10 @@ use Rattle.decode.specs.declared.MaskOp.{MaskOp}
 use Rattle.decode.specs.declared.MaskOp.the-variants.{Vcpop, Vfirst, Vmsbf, Vmsof, Vmsif}
 use Rattle.decode.specs.declared.MaskInstruction.{MaskInstruction}
 use Rattle.layout.specs.Layout.{elementAt, withElement}
-use Rattle.elementwise.specs.Elementwise.{scalarOf}
-use Rattle.machine.specs.State.{Core}
+use Rattle.plan.specs.declared.OneTurn.{OneTurn}
+use Rattle.plan.specs.declared.OneTurn.the-variants as O
+use Rattle.plan.specs.Plan.{scalarOf}
+use Rattle.machine.specs.State.{Core, withRegisters, withScalars, withControl}
 use Rattle.machine.specs.Effect.{activeOf}
 
 -- "x0 reads 0; its slot is never written"
@@ -44,30 +46,28 @@ nextControl b s t = setOf b (s .control) (typeFrom (s .scalars) (t .vtype)) (avl
 
 -- "rd gets the new vl"
 unfoldable pub settingResult : Board → Setting → Core → Core
-settingResult b t s = record {
-  registers = s .registers;
-  scalars = withScalar (s .scalars) (t .rd) (nextControl b s t .vl);
-  memory = s .memory;
-  control = nextControl b s t;
-}
+settingResult b t s =
+    withControl (nextControl b s t) (withScalars (withScalar (s .scalars) (t .rd) (nextControl b s t .vl)) s)
 
 -- ---- masks
 
--- element i is active and its bit in vs2 set
-abbrev pub setAt : ℕ → List ℕ → MaskInstruction → ℕ → Bool
-setAt vlenb file m i = activeOf vlenb file (m .masked) i && eqb (elementAt vlenb file (m .vs2) 1 i) 1
+module _ (vlenb : ℕ) (file : List ℕ) (m : MaskInstruction) where
+  -- element i is active and its bit in vs2 set
+  abbrev pub setAt : ℕ → Bool
+  setAt i = activeOf vlenb file (m .masked) i && eqb (elementAt vlenb file (m .vs2) 1 i) 1
 
--- how many of the first n are (section 16.2)
-unfoldable pub populationOf : ℕ → List ℕ → MaskInstruction → ℕ → ℕ
-populationOf vlenb file m zero = 0
-populationOf vlenb file m (suc n) = populationOf vlenb file m n + flag (setAt vlenb file m n)
+  -- how many of the first n are (section 16.2)
+  unfoldable pub populationOf : ℕ → ℕ
+  populationOf zero = 0
+  populationOf (suc n) = populationOf n + flag (setAt n)
 
--- the first of the n from i up that is; i + n where none is
-unfoldable pub firstOf : ℕ → List ℕ → MaskInstruction → ℕ → ℕ → ℕ
-firstOf vlenb file m i zero = i
-firstOf vlenb file m i (suc n) = cond (setAt vlenb file m i) i (firstOf vlenb file m (suc i) n)
+  -- the first of the n from i up that is; i + n where none is
+  unfoldable pub firstOf : ℕ → ℕ → ℕ
+  firstOf i zero = i
+  firstOf i (suc n) = cond (setAt i) i (firstOf (suc i) n)
 
--- set before, up to, or only at the first (sections 16.4 to 16.6)
+-- set before, up to, or only at the first (sections 16.4 to 16.6). vcpop and vfirst write no mask (`maskResult` below): their clauses are
+-- never used
 abbrev pub firstBit : MaskOp → ℕ → ℕ → ℕ
 firstBit Vmsbf i first = flag (ltb i first)
 firstBit Vmsif i first = flag (leb i first)
@@ -82,24 +82,26 @@ settingFirst vlenb before m first i (suc n) file =
     settingFirst vlenb before m first (suc i) n
     (cond (activeOf vlenb before (m .masked) i) (withElement vlenb file (m .rd) 1 i (firstBit (m .op) i first)) file)
 
-abbrev pub firstIn : Board → MaskInstruction → Core → ℕ
-firstIn b m s = firstOf (b .vlenb) (s .registers) m 0 (s .control .vl)
+-- vcpop and vfirst write rd, the others the mask register vd; vfirst gives −1, all ones, where no element is set (section 16.3)
+module _ (vlenb vl : ℕ) (m : MaskInstruction) (s : Core) where
+  abbrev pub firstIn : ℕ
+  firstIn = firstOf vlenb (s .registers) m 0 vl
 
-abbrev pub toScalar : MaskInstruction → Core → ℕ → Core
-toScalar m s x = record { registers = s .registers; scalars = withScalar (s .scalars) (m .rd) x; memory = s .memory; control = s .control }
+  abbrev pub toScalar : ℕ → Core
+  toScalar x = withScalars (withScalar (s .scalars) (m .rd) x) s
 
-abbrev pub toMask : Board → MaskInstruction → Core → Core
-toMask b m s = record {
-  registers = settingFirst (b .vlenb) (s .registers) m (firstIn b m s) 0 (s .control .vl) (s .registers);
-  scalars = s .scalars;
-  memory = s .memory;
-  control = s .control;
-}
+  abbrev pub toMask : Core
+  toMask = withRegisters (settingFirst vlenb (s .registers) m firstIn 0 vl (s .registers)) s
 
--- vfirst gives −1, all ones, where no element is set (section 16.3)
-unfoldable pub maskResult : Board → MaskInstruction → Core → MaskOp → Core
-maskResult b m s Vcpop = toScalar m s (populationOf (b .vlenb) (s .registers) m (s .control .vl))
-maskResult b m s Vfirst = toScalar m s (cond (ltb (firstIn b m s) (s .control .vl)) (firstIn b m s) (2 ^ 64 - 1))
-maskResult b m s Vmsbf = toMask b m s
-maskResult b m s Vmsof = toMask b m s
-maskResult b m s Vmsif = toMask b m s
+  unfoldable pub maskResult : MaskOp → Core
+  maskResult Vcpop = toScalar (populationOf vlenb (s .registers) m vl)
+  maskResult Vfirst = toScalar (cond (ltb firstIn vl) firstIn (2 ^ 64 - 1))
+  maskResult Vmsbf = toMask
+  maskResult Vmsof = toMask
+  maskResult Vmsif = toMask
+
+-- ---- each of them
+
+unfoldable pub oneTurnResult : Board → OneTurn → Core → Core
+oneTurnResult b (O.Setting t) s = settingResult b t s
+oneTurnResult b (O.Mask m) s = maskResult (b .vlenb) (s .control .vl) m s (m .op)

@@ -3,6 +3,8 @@ use Prim.Native.Nat.{ℕ}
 use mathlib.Core.List.{List}
 use Rattle.answer.specs.declared.Answer.{Answer}
 use Rattle.control.specs.declared.Control.{Control}
+use Rattle.control.specs.Control.{withVstart}
+use Rattle.access.specs.declared.FaultPlace.{FaultPlace}
 
 pub record State : Type 0 where
   pub registers : List ℕ
@@ -11,12 +13,16 @@ pub record State : Type 0 where
   pub rights : List ℕ
   pub control : Control
 
--- what a turn gives: the answer, the number of elements passed, the fault address, and the state after
+-- what a turn gives: the answer, the number of elements passed, where a fault lies, and the state after
 pub record Outcome : Type 0 where
   pub answer : Answer
   pub passed : ℕ
-  pub address : ℕ
+  pub place : FaultPlace
   pub after : State
+
+-- the same state with other rights
+abbrev pub withRights : List ℕ → State → State
+withRights r s = record { registers = s .registers; scalars = s .scalars; memory = s .memory; rights = r; control = s .control }
 
 -- all but the rights and vstart, which the theory of turns keeps apart; the record's vstart is 0 here
 pub record Core : Type 0 where
@@ -25,12 +31,23 @@ pub record Core : Type 0 where
   pub memory : List ℕ
   pub control : Control
 
-abbrev pub withVstart : Control → ℕ → Control
-withVstart c v = record { vtype = c .vtype; vl = c .vl; vstart = v; vxrm = c .vxrm; vxsat = c .vxsat }
-
 abbrev pub coreOf : State → Core
 coreOf s = record { registers = s .registers; scalars = s .scalars; memory = s .memory; control = withVstart (s .control) 0 }
 
 abbrev pub stateOf : List ℕ → Core → ℕ → State
-stateOf rights s v =
-    record { registers = s .registers; scalars = s .scalars; memory = s .memory; rights = rights; control = withVstart (s .control) v }
+stateOf rights s i =
+    record { registers = s .registers; scalars = s .scalars; memory = s .memory; rights = rights; control = withVstart (s .control) i }
+
+-- ---- with one part changed
+
+abbrev pub withRegisters : List ℕ → Core → Core
+withRegisters file s = record { registers = file; scalars = s .scalars; memory = s .memory; control = s .control }
+
+abbrev pub withScalars : List ℕ → Core → Core
+withScalars x s = record { registers = s .registers; scalars = x; memory = s .memory; control = s .control }
+
+abbrev pub withMemory : List ℕ → Core → Core
+withMemory m s = record { registers = s .registers; scalars = s .scalars; memory = m; control = s .control }
+
+abbrev pub withControl : Control → Core → Core
+withControl c s = record { registers = s .registers; scalars = s .scalars; memory = s .memory; control = c }

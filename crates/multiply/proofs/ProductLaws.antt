@@ -29,16 +29,20 @@ pub unsigned-read : (w b : ℕ) → Width (2 * w) → b < 2 ^ w → toZ w64 b �
 unsigned-read w b s l = toZ-pos w64 (cast-fits w b s l .sfits)
 
 -- a signed operand by an unsigned one
-pub mixed-fits : (w a b : ℕ) (x : ℤ) → x ≡ signed w a → mag x < 2 ^ 63 → Width (2 * w) → a < 2 ^ w → b < 2 ^ w → SFits w64 (toZ w64 (ofZ w64 x) *ℤ toZ w64 b)
+pub mixed-fits : (w a b : ℕ) (x : ℤ) → x ≡ signed w a → mag x < 2 ^ 63 → Width (2 * w) → a < 2 ^ w → b < 2 ^ w
+    → SFits w64 (toZ w64 (ofZ w64 x) *ℤ toZ w64 b)
 mixed-fits w a b x p hx s h l =
     let k = below-32 w b s l in
-    rw (signed-read w a x p hx, unsigned-read w b s l) (mul-fits (2 ^ 31) (2 ^ 32 - 1) (signed w a) (pos b) (narrow-abs w a s h) (omega arith) (lit< tt))
+    rw (signed-read w a x p hx, unsigned-read w b s l)
+    (mul-fits (2 ^ 31) (2 ^ 32 - 1) (signed w a) (pos b) (narrow-abs w a s h) (omega arith) (lit< tt))
 
 -- the low w bits of a product, and of what a shift leaves of it
-pub low-is : (w r p q : ℕ) (x y : ℤ) → r ≡ wrap w (toZ w64 (ofZ w64 (toZ w64 p *ℤ toZ w64 q))) → SFits w64 (toZ w64 p *ℤ toZ w64 q) → toZ w64 p ≡ x → toZ w64 q ≡ y → r ≡ wrap w (x *ℤ y)
+pub low-is : (w r p q : ℕ) (x y : ℤ) → r ≡ wrap w (toZ w64 (ofZ w64 (toZ w64 p *ℤ toZ w64 q))) → SFits w64 (toZ w64 p *ℤ toZ w64 q)
+    → toZ w64 p ≡ x → toZ w64 q ≡ y → r ≡ wrap w (x *ℤ y)
 low-is = op-is _*ℤ_
 
-pub high-is : (w m r p q : ℕ) (x y : ℤ) → r ≡ wrap w (toZ w64 (ofZ w64 (shrZ (toZ w64 (ofZ w64 (toZ w64 p *ℤ toZ w64 q))) m))) → SFits w64 (toZ w64 p *ℤ toZ w64 q) → toZ w64 p ≡ x → toZ w64 q ≡ y → r ≡ wrap w (shrZ (x *ℤ y) m)
+pub high-is : (w m r p q : ℕ) (x y : ℤ) → r ≡ wrap w (toZ w64 (ofZ w64 (shrZ (toZ w64 (ofZ w64 (toZ w64 p *ℤ toZ w64 q))) m)))
+    → SFits w64 (toZ w64 p *ℤ toZ w64 q) → toZ w64 p ≡ x → toZ w64 q ≡ y → r ≡ wrap w (shrZ (x *ℤ y) m)
 high-is w m r p q x y e f h l = e ∙ ap (wrap w) (shr-back (toZ w64 p *ℤ toZ w64 q) m f ∙ ap₂ (λ (u v : ℤ). shrZ (u *ℤ v) m) h l)
 
 -- what the signed products are proved by

@@ -1,15 +1,28 @@
 -- The table of shapes: what the operands of each operation are, as multiples of SEW.
 use Prim.Native.Nat.{ℕ, _*_, _/_}
-use mathlib.Core.Bool.{Bool, true, false, _||_, cond}
+use mathlib.Core.Bool.{true, false}
 use Rattle.operation.specs.declared.Op.{Op}
-use Rattle.operation.specs.declared.Op.the-variants.{Vadd, Vsub, Vrsub, Vwaddu, Vwadd, Vwsubu, Vwsub, VwadduW, VwaddW, VwsubuW, VwsubW, VzextVf2, VsextVf2, VzextVf4, VsextVf4, VzextVf8, VsextVf8, Vadc, Vsbc, Vmadc, Vmsbc, Vand, Vor, Vxor, Vsll, Vsrl, Vsra, Vnsrl, Vnsra, Vmseq, Vmsne, Vmsltu, Vmslt, Vmsleu, Vmsle, Vmsgtu, Vmsgt, Vminu, Vmin, Vmaxu, Vmax, Vmul, Vmulh, Vmulhu, Vmulhsu, Vdivu, Vdiv, Vremu, Vrem, Vwmul, Vwmulu, Vwmulsu, Vmacc, Vnmsac, Vmadd, Vnmsub, Vwmaccu, Vwmacc, Vwmaccsu, Vwmaccus, Vmerge, Vmv, Vsaddu, Vsadd, Vssubu, Vssub, Vaaddu, Vaadd, Vasubu, Vasub, Vsmul, Vssrl, Vssra, Vnclipu, Vnclip, Vmand, Vmnand, Vmandn, Vmxor, Vmor, Vmnor, Vmorn, Vmxnor}
+use Rattle.operation.specs.declared.Op.the-variants.{Vadd, Vsub, Vrsub}
+use Rattle.operation.specs.declared.Op.the-variants.{Vwaddu, Vwadd, Vwsubu, Vwsub, VwadduW, VwaddW, VwsubuW, VwsubW}
+use Rattle.operation.specs.declared.Op.the-variants.{VzextVf2, VsextVf2, VzextVf4, VsextVf4, VzextVf8, VsextVf8}
+use Rattle.operation.specs.declared.Op.the-variants.{Vadc, Vsbc, Vmadc, Vmsbc}
+use Rattle.operation.specs.declared.Op.the-variants.{Vand, Vor, Vxor, Vsll, Vsrl, Vsra, Vnsrl, Vnsra}
+use Rattle.operation.specs.declared.Op.the-variants.{Vmseq, Vmsne, Vmsltu, Vmslt, Vmsleu, Vmsle, Vmsgtu, Vmsgt}
+use Rattle.operation.specs.declared.Op.the-variants.{Vminu, Vmin, Vmaxu, Vmax}
+use Rattle.operation.specs.declared.Op.the-variants.{Vmul, Vmulh, Vmulhu, Vmulhsu, Vdivu, Vdiv, Vremu, Vrem, Vwmul, Vwmulu, Vwmulsu}
+use Rattle.operation.specs.declared.Op.the-variants.{Vmacc, Vnmsac, Vmadd, Vnmsub, Vwmaccu, Vwmacc, Vwmaccsu, Vwmaccus, Vmerge, Vmv}
+use Rattle.operation.specs.declared.Op.the-variants.{Vsaddu, Vsadd, Vssubu, Vssub, Vaaddu, Vaadd, Vasubu, Vasub, Vsmul}
+use Rattle.operation.specs.declared.Op.the-variants.{Vssrl, Vssra, Vnclipu, Vnclip}
+use Rattle.operation.specs.declared.Op.the-variants.{Vmand, Vmnand, Vmandn, Vmxor, Vmor, Vmnor, Vmorn, Vmxnor}
 use Rattle.operation.specs.declared.Size.{Size}
 use Rattle.operation.specs.declared.Size.the-variants.{Absent, Bit, Eighth, Quarter, Half, Single, Double}
 use Rattle.operation.specs.declared.V0.{V0}
-use Rattle.operation.specs.declared.V0.the-variants.{Masks, Carry, MaybeCarry, Unused}
+use Rattle.operation.specs.declared.V0.the-variants.{Masks, Operand, MaybeOperand, Unused}
 use Rattle.operation.specs.declared.Shape.{Shape}
 use Rattle.operation.specs.declared.Form.{Form}
-use Rattle.operation.specs.declared.Form.the-variants.{SingleWidth, Shift, High, Widening, WideFirst, Narrowing, FromHalf, FromQuarter, FromEighth, Compare, AddCarry, CarryOut, Merge, Move, MultiplyAdd, WideningMultiplyAdd, MaskLogical}
+use Rattle.operation.specs.declared.Form.the-variants.{SingleWidth, Shift, High, Widening, WideFirst, Narrowing}
+use Rattle.operation.specs.declared.Form.the-variants.{FromHalf, FromQuarter, FromEighth, Compare, AddCarry, CarryOut}
+use Rattle.operation.specs.declared.Form.the-variants.{Merge, Move, MultiplyAdd, WideningMultiplyAdd, MaskLogical}
 
 -- EEW of an operand at a SEW (section 6.2); mask elements have EEW 1
 abbrev pub eewOf : Size → ℕ → ℕ
@@ -21,51 +34,42 @@ eewOf Half sew = sew / 2
 eewOf Single sew = sew
 eewOf Double sew = 2 * sew
 
--- whether an operand has 2 * SEW bits
-abbrev pub isDouble : Size → Bool
-isDouble Absent = false
-isDouble Bit = false
-isDouble Eighth = false
-isDouble Quarter = false
-isDouble Half = false
-isDouble Single = false
-isDouble Double = true
-
 -- ---- the forms that there are: vd = vs2 op vs1
 
--- vd, vs2, vs1, and what v0 is; vd is no source, every SEW is there, and an immediate is sign-extended
+-- vd, vs2, vs1, and what v0 is. vd is no source, an immediate is sign-extended, and SEW goes to 64
 abbrev pub operandsOf : Size → Size → Size → V0 → Shape
-operandsOf vd vs2 vs1 v0 = record { vd = vd; vs2 = vs2; vs1 = vs1; accumulates = false; v0 = v0; narrow = false; shift = false }
+operandsOf vd vs2 vs1 v0 = record { vd = vd; vs2 = vs2; vs1 = vs1; accumulates = false; v0 = v0; unsigned = false; largest = 64 }
 
 -- the same, where v0 is the mask
 abbrev pub maskableOf : Size → Size → Size → Shape
 maskableOf vd vs2 vs1 = operandsOf vd vs2 vs1 Masks
 
--- where v0 is the mask and an immediate is not sign-extended
-abbrev pub shiftingOf : Size → Size → Size → Shape
-shiftingOf vd vs2 vs1 = record { vd = vd; vs2 = vs2; vs1 = vs1; accumulates = false; v0 = Masks; narrow = false; shift = true }
+-- one thing changed: vd is a source too; an immediate is not sign-extended; SEW goes to 32 alone
+abbrev pub accumulatingOf : Shape → Shape
+accumulatingOf s =
+    record { vd = s .vd; vs2 = s .vs2; vs1 = s .vs1; accumulates = true; v0 = s .v0; unsigned = s .unsigned; largest = s .largest }
 
--- where v0 is the mask and SEW is 8 to 32 alone
-abbrev pub upTo32 : Size → Size → Size → Shape
-upTo32 vd vs2 vs1 = record { vd = vd; vs2 = vs2; vs1 = vs1; accumulates = false; v0 = Masks; narrow = true; shift = false }
+abbrev pub unsignedOf : Shape → Shape
+unsignedOf s =
+    record { vd = s .vd; vs2 = s .vs2; vs1 = s .vs1; accumulates = s .accumulates; v0 = s .v0; unsigned = true; largest = s .largest }
 
--- where v0 is the mask and vd is a source too
-abbrev pub accumulatingOf : Size → Size → Size → Shape
-accumulatingOf vd vs2 vs1 = record { vd = vd; vs2 = vs2; vs1 = vs1; accumulates = true; v0 = Masks; narrow = false; shift = false }
+abbrev pub upTo32 : Shape → Shape
+upTo32 s =
+    record { vd = s .vd; vs2 = s .vs2; vs1 = s .vs1; accumulates = s .accumulates; v0 = s .v0; unsigned = s .unsigned; largest = 32 }
 
 abbrev pub shapeAt : Form → Shape
 -- SEW = SEW op SEW
 shapeAt SingleWidth = maskableOf Single Single Single
--- the same, by an immediate that is not sign-extended
-shapeAt Shift = shiftingOf Single Single Single
--- the same, at SEW 8 to 32 alone
-shapeAt High = upTo32 Single Single Single
--- 2*SEW = SEW op SEW (section 11.2)
-shapeAt Widening = maskableOf Double Single Single
+-- the same, by an immediate that is not sign-extended (document 01, 'Numbers': "shift immediates aren't")
+shapeAt Shift = unsignedOf (maskableOf Single Single Single)
+-- the same, not at SEW 64 (document 01, 'Built': "except vmulh, vmulhu, vmulhsu and vsmul at SEW 64")
+shapeAt High = upTo32 (maskableOf Single Single Single)
+-- 2*SEW = SEW op SEW (section 11.2); an operand of 2*SEW bits is at most 64 bits wide
+shapeAt Widening = upTo32 (maskableOf Double Single Single)
 -- 2*SEW = 2*SEW op SEW
-shapeAt WideFirst = maskableOf Double Double Single
+shapeAt WideFirst = upTo32 (maskableOf Double Double Single)
 -- SEW = 2*SEW op SEW (section 11.3), by an immediate that is not sign-extended
-shapeAt Narrowing = shiftingOf Single Double Single
+shapeAt Narrowing = upTo32 (unsignedOf (maskableOf Single Double Single))
 -- SEW of SEW/2, SEW/4, SEW/8
 shapeAt FromHalf = maskableOf Single Half Absent
 shapeAt FromQuarter = maskableOf Single Quarter Absent
@@ -73,17 +77,17 @@ shapeAt FromEighth = maskableOf Single Eighth Absent
 -- mask = SEW op SEW
 shapeAt Compare = maskableOf Bit Single Single
 -- SEW = SEW op SEW op carry
-shapeAt AddCarry = operandsOf Single Single Single Carry
+shapeAt AddCarry = operandsOf Single Single Single Operand
 -- mask = SEW op SEW op carry, if there is one
-shapeAt CarryOut = operandsOf Bit Single Single MaybeCarry
+shapeAt CarryOut = operandsOf Bit Single Single MaybeOperand
 -- SEW = v0 ? SEW : SEW
-shapeAt Merge = operandsOf Single Single Single Carry
+shapeAt Merge = operandsOf Single Single Single Operand
 -- SEW = SEW
 shapeAt Move = operandsOf Single Absent Single Unused
 -- SEW = SEW * SEW op SEW, one of them vd
-shapeAt MultiplyAdd = accumulatingOf Single Single Single
+shapeAt MultiplyAdd = accumulatingOf (maskableOf Single Single Single)
 -- 2*SEW = SEW * SEW op 2*SEW, the last vd
-shapeAt WideningMultiplyAdd = accumulatingOf Double Single Single
+shapeAt WideningMultiplyAdd = upTo32 (accumulatingOf (maskableOf Double Single Single))
 -- mask = mask op mask
 shapeAt MaskLogical = operandsOf Bit Bit Bit Unused
 
@@ -199,6 +203,6 @@ formOf Vmxnor = MaskLogical
 abbrev pub shapeOf : Op → Shape
 shapeOf op = shapeAt (formOf op)
 
--- the largest SEW of an operation: 32 where an operand has 2 * SEW bits, and for the high products and vsmul (document 01)
+-- the largest SEW of an operation
 abbrev pub largestSew : Op → ℕ
-largestSew op = cond (shapeOf op .narrow || (isDouble (shapeOf op .vd) || isDouble (shapeOf op .vs2))) 32 64
+largestSew op = shapeOf op .largest

@@ -1,7 +1,8 @@
 // The operations of sections 12, 13 and 16.1 of document 000 that work element by element, and the shape of each.
 ghost use mathlib.Core.Path.{_≡_};
 ghost use Prim.Native.Nat.{_≤_};
-ghost use Rattle.operation.specs.Shape.{eewOf, isDouble, operandsOf, maskableOf, shiftingOf, upTo32, accumulatingOf, shapeAt, formOf, shapeOf, largestSew};
+ghost use Rattle.operation.specs.Shape.{eewOf, operandsOf, maskableOf, accumulatingOf, unsignedOf, upTo32};
+ghost use Rattle.operation.specs.Shape.{shapeAt, formOf, shapeOf, largestSew};
 
 pub enum Op {
     Vadd,
@@ -100,14 +101,14 @@ pub enum Size {
     Double,
 }
 
-// What v0 is to an operation. Where it is a carry (or, for vmerge, the choice), all body elements are active.
+// What v0 is to an operation. Where it is an operand (the carry, the borrow, or the choice of vmerge), all body elements are active.
 pub enum V0 {
     // the mask, if vm is 0
     Masks,
     // an operand; vm is 0
-    Carry,
+    Operand,
     // an operand, if vm is 0
-    MaybeCarry,
+    MaybeOperand,
     // nothing; vm is 1
     Unused,
 }
@@ -155,10 +156,39 @@ pub struct Shape {
     // vd is a source too
     pub accumulates: bool,
     pub v0: V0,
-    // there at SEW 8 to 32 alone
-    pub narrow: bool,
-    // the immediate is a shift amount, not sign-extended
-    pub shift: bool,
+    // an immediate is not sign-extended
+    pub unsigned: bool,
+    // the largest SEW that the operation is there at
+    pub largest: u64,
+}
+
+impl Shape {
+    // vd is a source too.
+    fn accumulating(self) -> Shape
+        ensures { λ r. ⌜ r ≡ accumulatingOf self ⌝ }
+    {
+        let mut shape = self;
+        shape.accumulates = true;
+        shape
+    }
+
+    // An immediate is not sign-extended.
+    fn by_unsigned(self) -> Shape
+        ensures { λ r. ⌜ r ≡ unsignedOf self ⌝ }
+    {
+        let mut shape = self;
+        shape.unsigned = true;
+        shape
+    }
+
+    // SEW goes to 32 alone.
+    fn up_to_32(self) -> Shape
+        ensures { λ r. ⌜ r ≡ upTo32 self ⌝ }
+    {
+        let mut shape = self;
+        shape.largest = 32;
+        shape
+    }
 }
 
 // EEW at a SEW.
@@ -177,6 +207,7 @@ pub fn eew(size: Size, sew: u64) -> u64
     }
 }
 
+// The form of an operation.
 pub fn form_of(op: Op) -> Form
     ensures { λ r. ⌜ r ≡ formOf op ⌝ }
 {
@@ -267,118 +298,66 @@ pub fn form_of(op: Op) -> Form
     }
 }
 
-// A shape by its fields, in their order.
-fn row(
-    vd: Size,
-    vs2: Size,
-    vs1: Size,
-    accumulates: bool,
-    v0: V0,
-    narrow: bool,
-    shift: bool,
-) -> Shape
-    ensures { λ r. ⌜ r ≡ record { vd = vd; vs2 = vs2; vs1 = vs1; accumulates = accumulates; v0 = v0; narrow = narrow; shift = shift } ⌝ }
+// vd is no source, an immediate is sign-extended, and SEW goes to 64.
+fn operands(vd: Size, vs2: Size, vs1: Size, v0: V0) -> Shape
+    ensures { λ r. ⌜ r ≡ operandsOf vd vs2 vs1 v0 ⌝ }
 {
     Shape {
         vd,
         vs2,
         vs1,
-        accumulates,
+        accumulates: false,
         v0,
-        narrow,
-        shift,
+        unsigned: false,
+        largest: 64,
     }
 }
 
-// vd is no source, every SEW is there, and an immediate is sign-extended.
-fn operands(vd: Size, vs2: Size, vs1: Size, v0: V0) -> Shape
-    ensures { λ r. ⌜ r ≡ operandsOf vd vs2 vs1 v0 ⌝ }
-{
-    row(vd, vs2, vs1, false, v0, false, false)
-}
-
-// v0 is the mask.
+// The same, where v0 is the mask.
 fn maskable(vd: Size, vs2: Size, vs1: Size) -> Shape
     ensures { λ r. ⌜ r ≡ maskableOf vd vs2 vs1 ⌝ }
 {
     operands(vd, vs2, vs1, V0::Masks)
 }
 
-// v0 is the mask, and an immediate is not sign-extended.
-fn shifting(vd: Size, vs2: Size, vs1: Size) -> Shape
-    ensures { λ r. ⌜ r ≡ shiftingOf vd vs2 vs1 ⌝ }
-{
-    row(vd, vs2, vs1, false, V0::Masks, false, true)
-}
-
-// v0 is the mask, and SEW is 8 to 32 alone.
-fn up_to_32(vd: Size, vs2: Size, vs1: Size) -> Shape
-    ensures { λ r. ⌜ r ≡ upTo32 vd vs2 vs1 ⌝ }
-{
-    row(vd, vs2, vs1, false, V0::Masks, true, false)
-}
-
-// v0 is the mask, and vd a source too.
-fn accumulating(vd: Size, vs2: Size, vs1: Size) -> Shape
-    ensures { λ r. ⌜ r ≡ accumulatingOf vd vs2 vs1 ⌝ }
-{
-    row(vd, vs2, vs1, true, V0::Masks, false, false)
-}
-
+// The operands of a form.
 pub fn shape_at(form: Form) -> Shape
     ensures { λ r. ⌜ r ≡ shapeAt form ⌝ }
 {
+    let single = Size::Single;
+    let double = Size::Double;
     match form {
-        Form::SingleWidth => maskable(Size::Single, Size::Single, Size::Single),
-        Form::Shift => shifting(Size::Single, Size::Single, Size::Single),
-        Form::High => up_to_32(Size::Single, Size::Single, Size::Single),
-        Form::Widening => maskable(Size::Double, Size::Single, Size::Single),
-        Form::WideFirst => maskable(Size::Double, Size::Double, Size::Single),
-        Form::Narrowing => shifting(Size::Single, Size::Double, Size::Single),
-        Form::FromHalf => maskable(Size::Single, Size::Half, Size::Absent),
-        Form::FromQuarter => maskable(Size::Single, Size::Quarter, Size::Absent),
-        Form::FromEighth => maskable(Size::Single, Size::Eighth, Size::Absent),
-        Form::Compare => maskable(Size::Bit, Size::Single, Size::Single),
-        Form::AddCarry => operands(Size::Single, Size::Single, Size::Single, V0::Carry),
-        Form::CarryOut => operands(Size::Bit, Size::Single, Size::Single, V0::MaybeCarry),
-        Form::Merge => operands(Size::Single, Size::Single, Size::Single, V0::Carry),
-        Form::Move => operands(Size::Single, Size::Absent, Size::Single, V0::Unused),
-        Form::MultiplyAdd => accumulating(Size::Single, Size::Single, Size::Single),
-        Form::WideningMultiplyAdd => accumulating(Size::Double, Size::Single, Size::Single),
+        Form::SingleWidth => maskable(single, single, single),
+        Form::Shift => maskable(single, single, single).by_unsigned(),
+        Form::High => maskable(single, single, single).up_to_32(),
+        Form::Widening => maskable(double, single, single).up_to_32(),
+        Form::WideFirst => maskable(double, double, single).up_to_32(),
+        Form::Narrowing => maskable(single, double, single).by_unsigned().up_to_32(),
+        Form::FromHalf => maskable(single, Size::Half, Size::Absent),
+        Form::FromQuarter => maskable(single, Size::Quarter, Size::Absent),
+        Form::FromEighth => maskable(single, Size::Eighth, Size::Absent),
+        Form::Compare => maskable(Size::Bit, single, single),
+        Form::AddCarry => operands(single, single, single, V0::Operand),
+        Form::CarryOut => operands(Size::Bit, single, single, V0::MaybeOperand),
+        Form::Merge => operands(single, single, single, V0::Operand),
+        Form::Move => operands(single, Size::Absent, single, V0::Unused),
+        Form::MultiplyAdd => maskable(single, single, single).accumulating(),
+        Form::WideningMultiplyAdd => maskable(double, single, single).accumulating().up_to_32(),
         Form::MaskLogical => operands(Size::Bit, Size::Bit, Size::Bit, V0::Unused),
     }
 }
 
+// The operands of an operation.
 pub fn shape_of(op: Op) -> Shape
     ensures { λ r. ⌜ r ≡ shapeOf op ⌝ }
 {
     shape_at(form_of(op))
 }
 
-fn is_double(size: Size) -> bool
-    ensures { λ r. ⌜ r ≡ isDouble size ⌝ }
-{
-    match size {
-        Size::Absent => false,
-        Size::Bit => false,
-        Size::Eighth => false,
-        Size::Quarter => false,
-        Size::Half => false,
-        Size::Single => false,
-        Size::Double => true,
-    }
-}
-
-// The largest SEW that an operation is there at, by 64 bits for its widest operand.
+// The largest SEW that an operation is there at.
 pub fn largest_sew(op: Op) -> u64
     ensures { λ r. ⌜ r ≡ largestSew op ⌝ }
 {
     let shape = shape_of(op);
-    let vd = shape.vd;
-    let vs2 = shape.vs2;
-    if shape.narrow | (is_double(vd) | is_double(vs2)) {
-        32
-    } else {
-        64
-    }
+    shape.largest
 }

@@ -8,6 +8,7 @@ use answer::Verdict;
 use control::Board;
 use control::Control;
 
+// Whether no right is above 2.
 fn rights_fit(rights: &[u8]) -> bool
     ensures { λ r. ⌜ r ≡ rightsFit (now (rights .entry)) ⌝ }
 {
@@ -54,6 +55,7 @@ pub fn refusal_on(
     Verdict::Accepted
 }
 
+// What a state handed in comes to on the board of document 01.
 pub fn refusal(
     registers: &[u8],
     scalars: &[u64],
@@ -61,7 +63,10 @@ pub fn refusal(
     rights: &[u8],
     control: Control,
 ) -> Verdict
-    ensures { λ r. ⌜ r ≡ refusalOf base (length (now (registers .entry))) (length (now (scalars .entry))) (length (now (memory .entry))) (now (rights .entry)) control ⌝ }
+    ensures { λ r. ⌜
+        r ≡ refusalOf base (length (now (registers .entry))) (length (now (scalars .entry))) (length (now (memory .entry)))
+        (now (rights .entry)) control
+        ⌝ }
 {
     refusal_on(
         Board::base(),

@@ -11,23 +11,23 @@ use lib.ListN.{take}
 use borrow.Author.Tests.{eqb-true, eqb-false, ne-eqb}
 use Rattle.laws.proofs.Chain.{either}
 use Rattle.answer.specs.declared.Answer.{Answer}
-use Rattle.answer.specs.declared.Answer.the-variants.{Finished, Paused, Illegal, LoadMisaligned, LoadAccess, StoreMisaligned, StoreAccess, BadRegisters, BadScalars, BadMemory, BadRights, BadControl, TwoPages, NoGroup}
+use Rattle.answer.specs.declared.Answer.the-variants.{Finished, Paused, Illegal, LoadMisaligned, LoadAccess, StoreMisaligned, StoreAccess}
+use Rattle.answer.specs.declared.Answer.the-variants.{BadRegisters, BadScalars, BadMemory, BadRights, BadControl, TwoPages, NoGroup}
 use Rattle.answer.specs.Answer.{numberOf}
 use Rattle.control.specs.declared.Board.{Board}
 use Rattle.control.specs.Board.{Valid, base}
 use Rattle.control.proofs.Laws.{base-valid, possible-apart}
-use Rattle.decode.specs.declared.Instruction as Decoded
-use Rattle.decode.specs.Word.{decodeOf}
-use Rattle.turns.specs.Turn as Turn
-use Rattle.turns.proofs.Laws.{turn-cases}
+use Rattle.plan.specs.declared.Plan.{Plan}
+use Rattle.turn_theory.specs.Turn.{Semantics, TurnEnd}
+use Rattle.turn_theory.proofs.Laws.{turn-cases}
 use Rattle.machine.specs.State.{State, coreOf}
-use Rattle.machine.specs.Machine.{refusalAt, instructionOf, answerOf, ranOf, turnOf}
-use Rattle.machine.specs.Demands.{isTrap, isRefusal}
+use Rattle.machine.specs.Machine.{rejectionAt, semanticsOf, answerOf, ranOf, planAt, turnOf}
+use Rattle.machine.specs.Demands.{isTrap, changesNothing}
 use Rattle.machine.proofs.Lawful.{facts}
-use Rattle.machine.proofs.Theorems.{demand-3}
+use Rattle.machine.proofs.Demands.{demand-3}
 use Rattle.sheet_read.specs.Sheet.{allowOf, firstBad, sheetOf}
 use Rattle.sheet_read.proofs.Enough.{enough, enough-said}
-use Rattle.sheet.specs.Run.{Progress, joined, turned, isPaused, turnsOf, begun, wordOf, printed}
+use Rattle.sheet.specs.Run.{Progress, joined, turned, isPaused, moreTurns, begun, mostTurns, wordOf, printed}
 
 -- ---- a turn that pauses
 
@@ -51,23 +51,26 @@ module _ (b : Board) (word n : ℕ) (s : State) where
   abbrev v : ℕ
   v = s .control .vstart
 
-  abbrev J : Turn.Instruction
-  J = instructionOf b (decodeOf word)
+  abbrev p : Plan
+  p = planAt b word s
+
+  abbrev J : Semantics
+  J = semanticsOf b p
 
   -- a legal turn that passes k elements and has not finished
-  moved : (k : ℕ) → refusalAt b (decodeOf word) (s .rights) (coreOf s) v ≡ none → 1 ≤ k → (v < 8 * b .vlenb) × (v < v + k)
-  moved k h l = (possible-apart b (s .control) (facts b (decodeOf word) (s .rights) (coreOf s) v h .acceptable .possible) .vstart, omega arith)
+  moved : (k : ℕ) → rejectionAt b p (s .rights) (coreOf s) v ≡ none → 1 ≤ k → (v < 8 * b .vlenb) × (v < v + k)
+  moved k h l = (possible-apart b (s .control) (facts b p (s .rights) (coreOf s) v h .acceptable .possible) .vstart, omega arith)
 
   -- an outcome that answers 1 and passed elements
-  abbrev Moves : Turn.Outcome J → Type 0
+  abbrev Moves : TurnEnd J → Type 0
   Moves o = numberOf (answerOf (o .ending)) ≡ 1 → 1 ≤ o .passed → (v < 8 * b .vlenb) × (v < o .after .vstart)
 
-  turn-moves : Moves (ranOf b (decodeOf word) n s)
+  turn-moves : Moves (ranOf b p n s)
   turn-moves = turn-cases J (record { rights = s .rights; allowance = n }) (record { state = coreOf s; vstart = v }) Moves (record {
-    on-refused = λ x e p q. absurd (omega arith);
-    on-trapped = λ x k h l f e p q. moved k h q;
-    on-paused = λ k h l e f p q. moved k h q;
-    on-finished = λ h l p q. absurd (omega arith);
+    on-rejected = λ x e g q. absurd (omega arith);
+    on-trapped = λ x k h l f e g q. moved k h q;
+    on-paused = λ k h l e f g q. moved k h q;
+    on-finished = λ h l g q. absurd (omega arith);
   })
 
   paused-passes : Valid b → 1 ≤ n → turnOf b word n s .answer ≡ Paused → 1 ≤ turnOf b word n s .passed
@@ -76,7 +79,7 @@ module _ (b : Board) (word n : ℕ) (s : State) where
       (⊎-elim
       (λ t. let f : false ≡ true = sym (ap isTrap e) ∙ t in absurd (let z : _≡_ {A = ℕ} 0 1 = cc in omega arith))
       (λ t. let f : 1 ≡ 0 = ap numberOf (sym e ∙ t) in absurd (omega arith)))
-      (demand-3 b w .progress word n s (ap isRefusal e) l)
+      (demand-3 b w .progress word n s (ap changesNothing e) l)
 
   -- A turn that pauses, with an allowance of at least 1, began at a vstart that can be, and leaves it higher.
   pub pause-moves : Valid b → 1 ≤ n → turnOf b word n s .answer ≡ Paused
@@ -88,27 +91,27 @@ module _ (b : Board) (word n : ℕ) (s : State) where
 
 -- n more turns are enough after p: each pause leaves vstart higher
 abbrev Suffices : ℕ → Progress → Type 0
-Suffices n p = numberOf (p .answer) ≡ 1 → (1 ≤ n) × (128 < p .state .control .vstart + n)
+Suffices n p = numberOf (p .answer) ≡ 1 → (1 ≤ n) × (mostTurns ≤ p .state .control .vstart + n)
 
 module _ (word allow : ℕ) (l : 1 ≤ allow) where
-  one-less : (n : ℕ) (p : Progress) → 128 < p .state .control .vstart + suc n → Suffices n (joined p (turned word allow (p .state)))
+  one-less : (n : ℕ) (p : Progress) → mostTurns ≤ p .state .control .vstart + suc n → Suffices n (joined p (turned word allow (p .state)))
   one-less n p h e =
       let m = pause-moves base word allow (p .state) (base-valid base refl) l (paused-is _ e) in
       (omega (arith, m .0), omega (arith, m .1))
 
-  turns-end : (n : ℕ) (p : Progress) → Suffices n p → isPaused (turnsOf n word allow p .answer) ≡ false
-  unfolding turnsOf
+  turns-end : (n : ℕ) (p : Progress) → Suffices n p → isPaused (moreTurns n word allow p .answer) ≡ false
+  unfolding moreTurns
   turns-end zero p h = ne-eqb (numberOf (p .answer)) 1 (λ e. omega (arith, h e .0))
   turns-end (suc n) p h =
       let q : Progress = joined p (turned word allow (p .state)) in
-      either (λ (r : Progress). isPaused (r .answer) ≡ false) (isPaused (p .answer)) (turnsOf n word allow q) p
+      either (λ (r : Progress). isPaused (r .answer) ≡ false) (isPaused (p .answer)) (moreTurns n word allow q) p
       (λ t. turns-end n q (one-less n p (h (eqb-true (numberOf (p .answer)) 1 t) .1)))
       (λ t. t)
 
 -- "Each word takes turns of the allowance until it no longer pauses": the definition never stops before that.
 pub never-paused : (word allow : ℕ) (s : State) → 1 ≤ allow → isPaused (wordOf word allow s .answer) ≡ false
 unfolding wordOf
-never-paused word allow s l = turns-end word allow l 129 (begun s) (λ e. (lit≤ tt, omega arith))
+never-paused word allow s l = turns-end word allow l mostTurns (begun s) (λ e. (lit≤ tt, omega arith))
 
 -- ---- a good sheet
 

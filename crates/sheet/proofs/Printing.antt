@@ -17,10 +17,13 @@ use Rattle.layout.specs.Layout.{bytesAt}
 use Rattle.sheet_read.proofs.LineLaws.{placed}
 use Rattle.control.specs.Control.{reset}
 use Rattle.hexadecimal.specs.Hexadecimal.{numberAt}
-use Rattle.sheet_read.specs.Sheet.{rightsAt, allowOf, firstWord, countAt, wordsAt, firstBad, sheetOf}
+use Rattle.sheet_read.specs.Sheet.{marksFrom, rightsAt, x10From, x11From, x12From, allowOf, firstWord, countAt, wordsAt, mostWords}
+use Rattle.sheet_read.specs.Sheet.{firstBad, sheetOf}
 use Rattle.machine.specs.State.{State}
-use Rattle.turn.specs.Ran.{given}
-use Rattle.sheet.specs.Run.{memoryTo, scalarsOf, from, reportControl, report, runOf, valueText, registerLine, registerLines, finalOf, badSheet, sheetFrom, goodSheet, printed, buffered}
+use Rattle.machine.specs.Call.{given}
+use Rattle.sheet.specs.Run.{memoryTo, scalarsOf, from, reportControl, report, runOf, valueText, registerLine, registerLines}
+use Rattle.sheet.specs.Run.{finalOf, badSheet, sheetFrom, goodSheet, printed, buffered}
+use Rattle.sheet.specs.Bounds.{valueLength, registerBound}
 use Rattle.sheet.specs.Left.{Ended, Zeros}
 
 pub three : {o s t u o1 o2 o3 : List ℕ} {a a1 a2 a3 : ℕ} → Wrote o a s o1 a1 → Wrote o1 a1 t o2 a2 → Wrote o2 a2 u o3 a3
@@ -61,13 +64,13 @@ pub value-room : {o o1 o2 : List ℕ} {a a1 a2 : ℕ} (n : ℕ) → a ≤ 2 ^ 24
 value-room n h p q = omega (arith, p .ends, q .ends, decimal-length n)
 
 pub register-near : {o o1 o2 : List ℕ} {a a1 a2 a3 : ℕ} (n : ℕ) → Wrote o a (ascii "v") o1 a1 → Wrote o1 a1 (decimal n) o2 a2
-    → a3 ≤ a2 + 34 → a3 ≤ a + 64
+    → a3 ≤ a2 + valueLength → a3 ≤ a + registerBound
 register-near n p q h = omega (arith, p .ends, q .ends, decimal-length n)
 
 -- the lines of the first n registers have been written
 pub record Printed (file : List ℕ) (o : List ℕ) (a n : ℕ) (o1 : List ℕ) (a1 : ℕ) : Type 0 where
   pub wrote : Wrote o a (registerLines file n) o1 a1
-  pub near : a1 ≤ a + 64 * n
+  pub near : a1 ≤ a + registerBound * n
 
 pub printed-none : (file o : List ℕ) (a : ℕ) → Printed file o a 0 o a
 unfolding registerLines
@@ -75,7 +78,7 @@ printed-none file o a = record { wrote = nothing o a; near = omega arith }
 
 pub printed-more : {o o1 o2 : List ℕ} {a a1 a2 : ℕ} (file : List ℕ) (n high low : ℕ) → Printed file o a n o1 a1
     → high ≡ bytesAt file (16 * n + 8) 8 → low ≡ bytesAt file (16 * n) 8
-    → Wrote o1 a1 (registerLine n high low) o2 a2 → a2 ≤ a1 + 64 → Printed file o a (n + 1) o2 a2
+    → Wrote o1 a1 (registerLine n high low) o2 a2 → a2 ≤ a1 + registerBound → Printed file o a (n + 1) o2 a2
 unfolding registerLines
 printed-more file n high low p e f w h =
     rw (add-one n) (record { wrote = both (p .wrote) (rw (e, f) at w); near = omega (arith, p .near) })
@@ -110,21 +113,23 @@ pub filled-more : (memory now : List ℕ) (n : ℕ) → n < length memory → Fi
 unfolding memoryTo
 filled-more memory now n h e = rw (e, placed (memoryTo n) memory n (n % 256) (length-memory n) h, add-one n)
 
-pub filled-all : (memory now : List ℕ) (n : ℕ) → n ≤ length memory → length memory ≤ n → Filled memory n now → now ≡ memoryTo (length memory)
+pub filled-all : (memory now : List ℕ) (n : ℕ) → n ≤ length memory → length memory ≤ n → Filled memory n now
+    → now ≡ memoryTo (length memory)
 filled-all memory now n h k e =
     let m : n ≡ length memory = omega arith in
     e ∙ rw (m, drop-of-length-le memory {i = length memory} (omega arith), append-nil)
 
 -- ---- the sheet
 
-pub scalars-set : (s l : List ℕ) (a b c : ℕ) → Zeros 32 l → a ≡ numberAt s 28 16 → b ≡ numberAt s 49 16 → c ≡ numberAt s 70 16
+pub scalars-set : (s l : List ℕ) (a b c : ℕ) → Zeros 32 l
+    → a ≡ numberAt s x10From 16 → b ≡ numberAt s x11From 16 → c ≡ numberAt s x12From 16
     → set (set (set l 10 a) 11 b) 12 c ≡ scalarsOf (sheetOf s)
 unfolding sheetOf
 scalars-set s l a b c z p q r = rw (z .zeros, p, q, r)
 
 -- the words and what stands at the end, by what the calls say of the sheet
 pub sheet-wrote : {o o1 o2 : List ℕ} {a1 a2 : ℕ} (s : List ℕ) (start : State) (allow first count : ℕ) (registers scalars : List ℕ)
-    → allow ≡ allowOf s → first ≡ firstWord allow → count ≡ countAt s first 64
+    → allow ≡ allowOf s → first ≡ firstWord allow → count ≡ countAt s first mostWords
     → Ended (runOf (wordsAt s first count) allow (from start)) o o1 a1 registers scalars
     → Wrote o1 a1 (finalOf registers scalars) o2 a2
     → Wrote o 0 (sheetFrom (sheetOf s) start) o2 a2
@@ -137,7 +142,7 @@ sheet-wrote s start allow first count registers scalars p q r e w =
 -- the parts that a good sheet starts from
 pub good-wrote : {o o1 : List ℕ} {a1 : ℕ} (s registers scalars memory closed rights : List ℕ) (size : ℕ)
     → Zeros 512 registers → scalars ≡ scalarsOf (sheetOf s) → memory ≡ memoryTo size → size ≡ 4096
-    → Zeros 256 closed → rights ≡ rightsAt s 7 16 ++ drop 16 closed
+    → Zeros 256 closed → rights ≡ rightsAt s marksFrom 16 ++ drop 16 closed
     → Wrote o 0 (sheetFrom (sheetOf s) (given registers scalars memory rights reset)) o1 a1
     → Wrote o 0 (goodSheet (sheetOf s)) o1 a1
 unfolding sheetOf

@@ -11,16 +11,16 @@ use Rattle.answer.specs.declared.Answer.the-variants.{Finished, Paused}
 use Rattle.answer.specs.Answer.{numberOf}
 use Rattle.control.specs.declared.Control.{Control}
 use Rattle.machine.specs.State.{State}
-use Rattle.turn.specs.declared.Turned.{Turned}
-use Rattle.turn.specs.Ran.{given, left}
+use Rattle.machine.specs.declared.Turned.{Turned}
+use Rattle.machine.specs.Call.{given, left}
 use Rattle.machine.specs.Machine.{turnOf}
 use Rattle.control.specs.Board.{base}
 use Rattle.text.specs.Text.{Wrote}
 use Rattle.text.proofs.TextLaws.{both, nothing}
-use Rattle.hexadecimal.specs.Hexadecimal.{numberAt}
-use Rattle.sheet_read.specs.Sheet.{wordsAt}
+use Rattle.sheet_read.specs.Sheet.{wordAt, wordLength, wordsAt, afterWords}
 use Rattle.sheet.specs.declared.Ran.{Ran}
-use Rattle.sheet.specs.Run.{Progress, from, report, turned, isPaused, turnsOf, wordOf, isFinished, runOf}
+use Rattle.sheet.specs.Run.{Progress, from, report, turned, isPaused, moreTurns, mostTurns, wordOf, isFinished, runOf}
+use Rattle.sheet.specs.Bounds.{reportBound, wordBound}
 use Rattle.sheet.specs.Left.{Leaves, Ended}
 
 -- the lent parts are as long as at first
@@ -34,7 +34,8 @@ AsLong out₀ registers₀ scalars₀ memory₀ out registers scalars memory =
 pub turn-leaves : {out after : List ℕ} {at : ℕ} (next word allow : ℕ) (s : State) (t : Turned) (registers scalars memory rights : List ℕ)
     → left t registers scalars memory rights ≡ turnOf base word allow s
     → Wrote out at (report word (t .answer) (t .control)) after next
-    → Leaves (turned word allow s) out at after (record { at = next; answer = t .answer; control = t .control }) registers scalars memory rights
+    → Leaves (turned word allow s) out at after (record { at = next; answer = t .answer; control = t .control })
+    registers scalars memory rights
 turn-leaves next word allow s t registers scalars memory rights e w = rw (← e) (record { wrote = w; answer = refl; state = refl })
 
 -- ---- one word
@@ -43,16 +44,17 @@ turn-leaves next word allow s t registers scalars memory rights e w = rw (← e)
 pub record Turning (word allow : ℕ) (first : State) (out₀ : List ℕ) (at₀ left : ℕ) (out : List ℕ) (r : Ran) (state : State) : Type 0 where
   pub text : List ℕ
   pub wrote : Wrote out₀ at₀ text out (r .at)
-  pub rest : wordOf word allow first ≡ turnsOf left word allow (record { text = text; answer = r .answer; state = state })
-  pub near : r .at + 128 * left ≤ at₀ + 16512
+  pub rest : wordOf word allow first ≡ moreTurns left word allow (record { text = text; answer = r .answer; state = state })
+  pub near : r .at + reportBound * left ≤ at₀ + wordBound
 
 module _ (word allow : ℕ) (first : State) (out₀ : List ℕ) (at₀ : ℕ) where
-  pub turning-none : (c : Control) → Turning word allow first out₀ at₀ 129 out₀ (record { at = at₀; answer = Paused; control = c }) first
+  pub turning-none : (c : Control)
+      → Turning word allow first out₀ at₀ mostTurns out₀ (record { at = at₀; answer = Paused; control = c }) first
   unfolding wordOf
   turning-none c = record { text = []; wrote = nothing out₀ at₀; rest = refl; near = omega arith }
 
-  stopped : (left : ℕ) (p : Progress) → isPaused (p .answer) ≡ false → turnsOf left word allow p ≡ p
-  unfolding turnsOf
+  stopped : (left : ℕ) (p : Progress) → isPaused (p .answer) ≡ false → moreTurns left word allow p ≡ p
+  unfolding moreTurns
   stopped zero p h = refl
   stopped (suc n) p h = rw h
 
@@ -66,15 +68,17 @@ module _ (word allow : ℕ) (first : State) (out₀ : List ℕ) (at₀ : ℕ) wh
     state = ap (λ (p : Progress). p .state) (sym e);
   }
 
-  pub turning-more : (left number : ℕ) (out out' : List ℕ) (r r' : Ran) (registers scalars memory rights registers' scalars' memory' : List ℕ)
+  pub turning-more : (left number : ℕ) (out out' : List ℕ) (r r' : Ran)
+      (registers scalars memory rights registers' scalars' memory' : List ℕ)
       → Turning word allow first out₀ at₀ left out r (given registers scalars memory rights (r .control))
       → 0 < left
       → number ≡ numberOf (r .answer)
       → number ≡ 1
-      → Leaves (turned word allow (given registers scalars memory rights (r .control))) out (r .at) out' r' registers' scalars' memory' rights
-      → r' .at ≤ r .at + 128
+      → Leaves (turned word allow (given registers scalars memory rights (r .control))) out (r .at) out' r'
+      registers' scalars' memory' rights
+      → r' .at ≤ r .at + reportBound
       → Turning word allow first out₀ at₀ (left - 1) out' r' (given registers' scalars' memory' rights (r' .control))
-  unfolding turnsOf
+  unfolding moreTurns
   turning-more zero number out out' r r' registers scalars memory rights registers' scalars' memory' t g q h l n = absurd (omega arith)
   turning-more (suc left) number out out' r r' registers scalars memory rights registers' scalars' memory' t g q h l n =
       let e : suc left - 1 ≡ left = omega arith in
@@ -99,7 +103,7 @@ module _ (word allow : ℕ) (first : State) (out₀ : List ℕ) (at₀ : ℕ) wh
       → Turning word allow first out₀ at₀ left out r (given registers scalars memory rights (r .control))
       → left ≤ 0
       → Leaves (wordOf word allow first) out₀ at₀ out r registers scalars memory rights
-  unfolding turnsOf
+  unfolding moreTurns
   turning-last zero out r registers scalars memory rights t h = left-by t (t .rest)
   turning-last (suc left) out r registers scalars memory rights t h = absurd (omega arith)
 
@@ -112,12 +116,13 @@ named word n allow s e l = rw e at l
 -- ---- the words
 
 -- k words have been taken
-pub record Running (sheet : List ℕ) (first count allow : ℕ) (start : State) (out₀ : List ℕ) (k : ℕ) (out : List ℕ) (r : Ran) (state : State) : Type 0 where
+pub record Running (sheet : List ℕ) (first count allow : ℕ) (start : State) (out₀ : List ℕ) (k : ℕ) (out : List ℕ) (r : Ran)
+    (state : State) : Type 0 where
   pub text : List ℕ
   pub wrote : Wrote out₀ 0 text out (r .at)
   pub rest : runOf (wordsAt sheet first count) allow (from start)
-      ≡ runOf (wordsAt sheet (first + 14 * k) (count - k)) allow (record { text = text; answer = r .answer; state = state })
-  pub near : r .at ≤ 16512 * k
+      ≡ runOf (wordsAt sheet (afterWords first k) (count - k)) allow (record { text = text; answer = r .answer; state = state })
+  pub near : r .at ≤ wordBound * k
 
 unfinished : (words : List ℕ) (allow : ℕ) (p : Progress) → isFinished (p .answer) ≡ false → runOf words allow p ≡ p
 unfolding runOf
@@ -125,15 +130,17 @@ unfinished [] allow p h = refl
 unfinished (w ∷ ws) allow p h = rw h
 
 next-word : (sheet : List ℕ) (first count k : ℕ) → k < count
-    → wordsAt sheet (first + 14 * k) (count - k) ≡ numberAt sheet (first + 14 * k + 5) 8 ∷ wordsAt sheet (first + 14 * (k + 1)) (count - (k + 1))
+    → wordsAt sheet (afterWords first k) (count - k)
+    ≡ wordAt sheet (afterWords first k) ∷ wordsAt sheet (afterWords first (k + 1)) (count - (k + 1))
 unfolding wordsAt
 next-word sheet first count k h =
     let e : count - k ≡ suc (count - (k + 1)) = omega arith in
-    let f : first + 14 * k + 14 ≡ first + 14 * (k + 1) = omega arith in
+    let f : afterWords first k + wordLength ≡ afterWords first (k + 1) = omega arith in
     rw (e, f)
 
 module _ (sheet : List ℕ) (first count allow : ℕ) (start : State) (out₀ : List ℕ) where
-  pub running-none : (c : Control) → Running sheet first count allow start out₀ 0 out₀ (record { at = 0; answer = Finished; control = c }) start
+  pub running-none : (c : Control)
+      → Running sheet first count allow start out₀ 0 out₀ (record { at = 0; answer = Finished; control = c }) start
   running-none c = record { text = []; wrote = nothing out₀ 0; rest = same; near = omega arith }
     where
       same : runOf (wordsAt sheet first count) allow (from start) ≡ runOf (wordsAt sheet (first + 0) (count - 0)) allow (from start)
@@ -144,12 +151,12 @@ module _ (sheet : List ℕ) (first count allow : ℕ) (start : State) (out₀ : 
       → Running sheet first count allow start out₀ k out r state
       → number ≡ numberOf (r .answer)
       → number ≡ 0
-      → Leaves (wordOf (numberAt sheet (first + 14 * k + 5) 8) allow state) out (r .at) out' r' registers scalars memory rights
-      → r' .at ≤ r .at + 16512
+      → Leaves (wordOf (wordAt sheet (afterWords first k)) allow state) out (r .at) out' r' registers scalars memory rights
+      → r' .at ≤ r .at + wordBound
       → Running sheet first count allow start out₀ (k + 1) out' r' (given registers scalars memory rights (r' .control))
   unfolding runOf
   running-more k number out out' state r r' registers scalars memory rights h g q z l n = record {
-    text = g .text ++ wordOf (numberAt sheet (first + 14 * k + 5) 8) allow state .text;
+    text = g .text ++ wordOf (wordAt sheet (afterWords first k)) allow state .text;
     wrote = both (g .wrote) (l .wrote);
     rest = g .rest ∙ rw (next-word sheet first count k h, eq-eqb (numberOf (r .answer)) 0 (sym q ∙ z), l .answer, l .state);
     near = omega (arith, g .near);

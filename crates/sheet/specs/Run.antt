@@ -73,17 +73,20 @@ abbrev pub isFinished : Answer → Bool
 isFinished answer = eqb (numberOf answer) 0
 
 -- "Each word takes turns of the allowance until it no longer pauses": n more turns at most
-unfoldable pub turnsOf : ℕ → ℕ → ℕ → Progress → Progress
-turnsOf zero word allow p = p
-turnsOf (suc n) word allow p = cond (isPaused (p .answer)) (turnsOf n word allow (joined p (turned word allow (p .state)))) p
+unfoldable pub moreTurns : ℕ → ℕ → ℕ → Progress → Progress
+moreTurns zero word allow p = p
+moreTurns (suc n) word allow p = cond (isPaused (p .answer)) (moreTurns n word allow (joined p (turned word allow (p .state)))) p
 
 -- a word that has not begun counts as paused
 abbrev pub begun : State → Progress
 begun s = record { text = []; answer = Paused; state = s }
 
 -- A pause leaves vstart higher, and vstart above 127 is refused: no word pauses 129 times (law `ends`, proofs/Ends)
+abbrev pub mostTurns : ℕ
+mostTurns = 129
+
 unfoldable pub wordOf : ℕ → ℕ → State → Progress
-wordOf word allow s = turnsOf 129 word allow (begun s)
+wordOf word allow s = moreTurns mostTurns word allow (begun s)
 
 -- "the run ends after the first answer other than 0 and 1, or the last word"
 unfoldable pub runOf : List ℕ → ℕ → Progress → Progress

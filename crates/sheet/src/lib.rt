@@ -3,14 +3,22 @@ ghost use mathlib.Core.Path.{_≡_};
 ghost use Prim.Native.Nat.{_+_, _≤_, _^_};
 ghost use lib.ListN.{length};
 ghost use Rattle.control.specs.Control.{reset};
-ghost use Rattle.hexadecimal.specs.Hexadecimal.{numberAt};
 ghost use Rattle.text.specs.Text.{Wrote};
-ghost use Rattle.turn.specs.Ran.{given};
-ghost use Rattle.sheet_read.specs.Sheet.{wordsAt, sheetOf};
-ghost use Rattle.sheet.specs.Run.{memoryTo, scalarsOf, from, reportControl, report, turned, wordOf, runOf, valueText, registerLine, registerLines, scalarLines, finalOf, badSheet, sheetFrom, goodSheet, printed, buffered};
+ghost use Rattle.machine.specs.Call.{given};
+ghost use Rattle.sheet_read.specs.Sheet.{afterAllow, wordAt, mostWords, wordsAt, sheetOf};
+ghost use Rattle.sheet.specs.Run.{memoryTo, scalarsOf, from, reportControl, report, turned, wordOf, runOf, valueText, registerLine};
+ghost use Rattle.sheet.specs.Run.{registerLines, scalarLines, finalOf, badSheet, sheetFrom, goodSheet, printed, buffered};
+ghost use Rattle.sheet.specs.Bounds.{controlBound, reportBound, wordBound, wordsBound, scalarsLength, valueLength, registerBound};
+ghost use Rattle.sheet.specs.Bounds.{registersBound, finalBound, sheetBound};
 ghost use Rattle.sheet.specs.Left.{Leaves, Ended, Zeros};
 use answer::Answer;
 use control::Control;
+
+// A word's turns, at most.
+const MOST_TURNS: u64 = 129;
+
+// The length of the longest text that a sheet prints, at most.
+pub const SHEET_MAX: usize = 1060000;
 
 // Where the text ends, the last answer, and the control record.
 pub struct Ran {
@@ -22,7 +30,7 @@ pub struct Ran {
 // The control record in a report.
 fn report_control(out: &mut [u8], at: usize, control: Control) -> usize
     requires { ⌜ at ≤ 2 ^ 25 ⌝ }
-    ensures { λ r. ⌜ Wrote (now (out .entry)) at (reportControl control) (now (out .exit)) r × (r ≤ at + 75) ⌝ }
+    ensures { λ r. ⌜ Wrote (now (out .entry)) at (reportControl control) (now (out .exit)) r × (r ≤ at + controlBound) ⌝ }
 {
     let a = text::decimal_line(out, at, b"vstart=", control.vstart);
     let b = text::decimal_line(out, a, b"vl=", control.vl);
@@ -32,7 +40,7 @@ fn report_control(out: &mut [u8], at: usize, control: Control) -> usize
 // The report of a turn.
 fn report_turn(out: &mut [u8], at: usize, word: u32, answer: Answer, control: Control) -> usize
     requires { ⌜ at ≤ 2 ^ 24 ⌝ }
-    ensures { λ r. ⌜ Wrote (now (out .entry)) at (report word answer control) (now (out .exit)) r × (r ≤ at + 128) ⌝ }
+    ensures { λ r. ⌜ Wrote (now (out .entry)) at (report word answer control) (now (out .exit)) r × (r ≤ at + reportBound) ⌝ }
 {
     let a = text::hex_line(out, at, b"word=", 8, word as u64);
     let b = text::decimal_line(out, a, b"answer=", answer::number(answer));
@@ -52,7 +60,11 @@ fn take_turn(
     control: Control,
 ) -> Ran
     requires { ⌜ at ≤ 2 ^ 24 ⌝ }
-    ensures { λ r. ⌜ Leaves (turned word allow (given (now (registers .entry)) (now (scalars .entry)) (now (memory .entry)) (now (rights .entry)) control)) (now (out .entry)) at (now (out .exit)) r (now (registers .exit)) (now (scalars .exit)) (now (memory .exit)) (now (rights .entry)) × (r .at ≤ at + 128) ⌝ }
+    ensures { λ r. ⌜
+        Leaves (turned word allow
+        (given (now (registers .entry)) (now (scalars .entry)) (now (memory .entry)) (now (rights .entry)) control))
+        (now (out .entry)) at (now (out .exit)) r (now (registers .exit)) (now (scalars .exit)) (now (memory .exit)) (now (rights .entry))
+        × (r .at ≤ at + reportBound) ⌝ }
 {
     let t = turn::turn(word, allow, registers, scalars, memory, rights, control);
     let answer = t.answer;
@@ -77,14 +89,18 @@ fn run_word(
     control: Control,
 ) -> Ran
     requires { ⌜ at ≤ 2 ^ 23 ⌝ }
-    ensures { λ r. ⌜ Leaves (wordOf word allow (given (now (registers .entry)) (now (scalars .entry)) (now (memory .entry)) (now (rights .entry)) control)) (now (out .entry)) at (now (out .exit)) r (now (registers .exit)) (now (scalars .exit)) (now (memory .exit)) (now (rights .entry)) × (r .at ≤ at + 16512) ⌝ }
+    ensures { λ r. ⌜
+        Leaves (wordOf word allow
+        (given (now (registers .entry)) (now (scalars .entry)) (now (memory .entry)) (now (rights .entry)) control))
+        (now (out .entry)) at (now (out .exit)) r (now (registers .exit)) (now (scalars .exit)) (now (memory .exit)) (now (rights .entry))
+        × (r .at ≤ at + wordBound) ⌝ }
 {
     let mut ran = Ran {
         at,
         answer: Answer::Paused,
         control,
     };
-    let mut left: u64 = 129;
+    let mut left: u64 = MOST_TURNS;
     while 0 < left {
         let answer = ran.answer;
         if answer::number(answer) != 1 {
@@ -120,9 +136,13 @@ fn run_line(
     control: Control,
 ) -> Ran
     requires { ⌜ (at ≤ 2 ^ 23) × (line ≤ 2 ^ 16) ⌝ }
-    ensures { λ r. ⌜ Leaves (wordOf (numberAt (now (sheet .entry)) (line + 5) 8) allow (given (now (registers .entry)) (now (scalars .entry)) (now (memory .entry)) (now (rights .entry)) control)) (now (out .entry)) at (now (out .exit)) r (now (registers .exit)) (now (scalars .exit)) (now (memory .exit)) (now (rights .entry)) × (r .at ≤ at + 16512) ⌝ }
+    ensures { λ r. ⌜
+        Leaves (wordOf (wordAt (now (sheet .entry)) line) allow
+        (given (now (registers .entry)) (now (scalars .entry)) (now (memory .entry)) (now (rights .entry)) control))
+        (now (out .entry)) at (now (out .exit)) r (now (registers .exit)) (now (scalars .exit)) (now (memory .exit)) (now (rights .entry))
+        × (r .at ≤ at + wordBound) ⌝ }
 {
-    let word = hexadecimal::number(sheet, line + 5, 8) as u32;
+    let word = hexadecimal::number(sheet, line + sheet_read::WORD_FROM, 8) as u32;
     run_word(
         out,
         at,
@@ -148,8 +168,12 @@ fn run_words(
     memory: &mut [u8],
     rights: &[u8],
 ) -> usize
-    requires { ⌜ (first ≤ 97) × (count ≤ 64) ⌝ }
-    ensures { λ r. ⌜ Ended (runOf (wordsAt (now (sheet .entry)) first count) allow (from (given (now (registers .entry)) (now (scalars .entry)) (now (memory .entry)) (now (rights .entry)) reset))) (now (out .entry)) (now (out .exit)) r (now (registers .exit)) (now (scalars .exit)) × (r ≤ 1056768) ⌝ }
+    requires { ⌜ (first ≤ afterAllow 3) × (count ≤ mostWords) ⌝ }
+    ensures { λ r. ⌜
+        Ended (runOf (wordsAt (now (sheet .entry)) first count) allow
+        (from (given (now (registers .entry)) (now (scalars .entry)) (now (memory .entry)) (now (rights .entry)) reset)))
+        (now (out .entry)) (now (out .exit)) r (now (registers .exit)) (now (scalars .exit))
+        × (r ≤ wordsBound) ⌝ }
 {
     let mut ran = Ran {
         at: 0,
@@ -166,7 +190,7 @@ fn run_words(
             out,
             ran.at,
             sheet,
-            first + 14 * k,
+            first + sheet_read::WORD_LENGTH * k,
             allow,
             registers,
             scalars,
@@ -182,7 +206,7 @@ fn run_words(
 // The value of a register, of which the high and the low eight bytes are given.
 fn print_value(out: &mut [u8], at: usize, high: u64, low: u64) -> usize
     requires { ⌜ at ≤ 2 ^ 25 ⌝ }
-    ensures { λ r. ⌜ Wrote (now (out .entry)) at (valueText high low) (now (out .exit)) r × (r ≤ at + 34) ⌝ }
+    ensures { λ r. ⌜ Wrote (now (out .entry)) at (valueText high low) (now (out .exit)) r × (r ≤ at + valueLength) ⌝ }
 {
     let a = text::put(out, at, b"=");
     let b = text::put_hex(out, a, 16, high);
@@ -193,7 +217,7 @@ fn print_value(out: &mut [u8], at: usize, high: u64, low: u64) -> usize
 // The line of register n.
 fn print_register(out: &mut [u8], at: usize, n: u64, high: u64, low: u64) -> usize
     requires { ⌜ at ≤ 2 ^ 24 ⌝ }
-    ensures { λ r. ⌜ Wrote (now (out .entry)) at (registerLine n high low) (now (out .exit)) r × (r ≤ at + 64) ⌝ }
+    ensures { λ r. ⌜ Wrote (now (out .entry)) at (registerLine n high low) (now (out .exit)) r × (r ≤ at + registerBound) ⌝ }
 {
     if (high == 0) & (low == 0) {
         return at;
@@ -203,9 +227,11 @@ fn print_register(out: &mut [u8], at: usize, n: u64, high: u64, low: u64) -> usi
     print_value(out, b, high, low)
 }
 
+// The lines of all registers.
 fn print_registers(out: &mut [u8], at: usize, registers: &[u8]) -> usize
     requires { ⌜ (at ≤ 2 ^ 22) × (length (now registers) ≡ 512) ⌝ }
-    ensures { λ r. ⌜ Wrote (now (out .entry)) at (registerLines (now (registers .entry)) 32) (now (out .exit)) r × (r ≤ at + 2048) ⌝ }
+    ensures { λ r. ⌜
+        Wrote (now (out .entry)) at (registerLines (now (registers .entry)) 32) (now (out .exit)) r × (r ≤ at + registersBound) ⌝ }
 {
     let mut next = at;
     for n in 0..32usize {
@@ -219,7 +245,7 @@ fn print_registers(out: &mut [u8], at: usize, registers: &[u8]) -> usize
 // x10, x11, x12.
 fn print_scalars(out: &mut [u8], at: usize, scalars: &[u64]) -> usize
     requires { ⌜ (at ≤ 2 ^ 21) × (length (now scalars) ≡ 32) ⌝ }
-    ensures { λ r. ⌜ Wrote (now (out .entry)) at (scalarLines (now (scalars .entry))) (now (out .exit)) r × (r ≡ at + 63) ⌝ }
+    ensures { λ r. ⌜ Wrote (now (out .entry)) at (scalarLines (now (scalars .entry))) (now (out .exit)) r × (r ≡ at + scalarsLength) ⌝ }
 {
     let a = text::hex_line(out, at, b"x10=", 16, scalars[10]);
     let b = text::hex_line(out, a, b"x11=", 16, scalars[11]);
@@ -229,7 +255,9 @@ fn print_scalars(out: &mut [u8], at: usize, scalars: &[u64]) -> usize
 // What stands at the end.
 fn print_final(out: &mut [u8], at: usize, registers: &[u8], scalars: &[u64]) -> usize
     requires { ⌜ (at ≤ 2 ^ 21) × ((length (now registers) ≡ 512) × (length (now scalars) ≡ 32)) ⌝ }
-    ensures { λ r. ⌜ Wrote (now (out .entry)) at (finalOf (now (registers .entry)) (now (scalars .entry))) (now (out .exit)) r × (r ≤ at + 2111) ⌝ }
+    ensures { λ r. ⌜
+        Wrote (now (out .entry)) at (finalOf (now (registers .entry)) (now (scalars .entry))) (now (out .exit)) r
+        × (r ≤ at + finalBound) ⌝ }
 {
     let a = print_scalars(out, at, scalars);
     print_registers(out, a, registers)
@@ -249,9 +277,9 @@ fn set_scalars(sheet: &[u8], scalars: &mut [u64])
     requires { ⌜ Zeros 32 (now scalars) ⌝ }
     ensures { λ _. ⌜ now (scalars .exit) ≡ scalarsOf (sheetOf (now (sheet .entry))) ⌝ }
 {
-    scalars[10] = hexadecimal::number(sheet, 28, 16);
-    scalars[11] = hexadecimal::number(sheet, 49, 16);
-    scalars[12] = hexadecimal::number(sheet, 70, 16);
+    scalars[10] = hexadecimal::number(sheet, sheet_read::X10_FROM, 16);
+    scalars[11] = hexadecimal::number(sheet, sheet_read::X11_FROM, 16);
+    scalars[12] = hexadecimal::number(sheet, sheet_read::X12_FROM, 16);
 }
 
 // The words of a good sheet, and what stands at the end.
@@ -264,7 +292,12 @@ fn run_sheet(
     rights: &[u8],
 ) -> usize
     requires { ⌜ (length (now registers) ≡ 512) × (length (now scalars) ≡ 32) ⌝ }
-    ensures { λ r. ⌜ Wrote (now (out .entry)) 0 (sheetFrom (sheetOf (now (sheet .entry))) (given (now (registers .entry)) (now (scalars .entry)) (now (memory .entry)) (now (rights .entry)) reset)) (now (out .exit)) r × (r ≤ 1060000) ⌝ }
+    ensures { λ r. ⌜
+        Wrote (now (out .entry)) 0
+        (sheetFrom (sheetOf (now (sheet .entry)))
+        (given (now (registers .entry)) (now (scalars .entry)) (now (memory .entry)) (now (rights .entry)) reset))
+        (now (out .exit)) r
+        × (r ≤ sheetBound) ⌝ }
 {
     let allow = sheet_read::allow(sheet);
     let first = sheet_read::first_word(allow);
@@ -292,8 +325,10 @@ fn run_good(
     memory: &mut [u8],
     rights: &mut [u8],
 ) -> usize
-    requires { ⌜ Zeros 512 (now registers) × (Zeros 32 (now scalars) × ((length (now memory) ≡ 4096) × Zeros 256 (now rights))) ⌝ }
-    ensures { λ r. ⌜ Wrote (now (out .entry)) 0 (goodSheet (sheetOf (now (sheet .entry)))) (now (out .exit)) r × (r ≤ 1060000) ⌝ }
+    requires { ⌜
+        Zeros 512 (now registers) × (Zeros 32 (now scalars) × ((length (now memory) ≡ 4096) × Zeros 256 (now rights))) ⌝ }
+    ensures { λ r. ⌜
+        Wrote (now (out .entry)) 0 (goodSheet (sheetOf (now (sheet .entry)))) (now (out .exit)) r × (r ≤ sheetBound) ⌝ }
 {
     count_up(memory);
     sheet_read::open(sheet, rights);
@@ -301,8 +336,10 @@ fn run_good(
     run_sheet(out, sheet, registers, scalars, memory, rights)
 }
 
+// A good sheet, on a machine of its own.
 fn print_good(out: &mut [u8], sheet: &[u8]) -> usize
-    ensures { λ r. ⌜ Wrote (now (out .entry)) 0 (goodSheet (sheetOf (now (sheet .entry)))) (now (out .exit)) r × (r ≤ 1060000) ⌝ }
+    ensures { λ r. ⌜
+        Wrote (now (out .entry)) 0 (goodSheet (sheetOf (now (sheet .entry)))) (now (out .exit)) r × (r ≤ sheetBound) ⌝ }
 {
     let mut registers = [0u8; 512];
     let mut scalars = [0u64; 32];
@@ -318,8 +355,9 @@ fn print_good(out: &mut [u8], sheet: &[u8]) -> usize
     )
 }
 
+// The two lines of a bad sheet.
 fn print_bad(out: &mut [u8], line: u64) -> usize
-    ensures { λ r. ⌜ Wrote (now (out .entry)) 0 (badSheet line) (now (out .exit)) r × (r ≤ 1060000) ⌝ }
+    ensures { λ r. ⌜ Wrote (now (out .entry)) 0 (badSheet line) (now (out .exit)) r × (r ≤ sheetBound) ⌝ }
 {
     let a = text::put(out, 0, b"sheet=bad\n");
     text::decimal_line(out, a, b"line=", line)
@@ -327,7 +365,7 @@ fn print_bad(out: &mut [u8], line: u64) -> usize
 
 // What the sheet prints, as far as the buffer reaches, and its whole length.
 fn print(out: &mut [u8], sheet: &[u8]) -> usize
-    ensures { λ r. ⌜ Wrote (now (out .entry)) 0 (printed (now (sheet .entry))) (now (out .exit)) r × (r ≤ 1060000) ⌝ }
+    ensures { λ r. ⌜ Wrote (now (out .entry)) 0 (printed (now (sheet .entry))) (now (out .exit)) r × (r ≤ sheetBound) ⌝ }
 {
     let line = sheet_read::first_bad(sheet);
     if line == 0 {
@@ -338,7 +376,9 @@ fn print(out: &mut [u8], sheet: &[u8]) -> usize
 
 // The length of what the sheet prints; it stands in the buffer where the buffer is as long, and otherwise nothing is written.
 pub fn run(sheet: &[u8], out: &mut [u8]) -> usize
-    ensures { λ r. ⌜ (r ≡ length (printed (now (sheet .entry)))) × ((now (out .exit) ≡ buffered (printed (now (sheet .entry))) (now (out .entry))) × (r ≤ 1060000)) ⌝ }
+    ensures { λ r. ⌜
+        (r ≡ length (printed (now (sheet .entry))))
+        × ((now (out .exit) ≡ buffered (printed (now (sheet .entry))) (now (out .entry))) × (r ≤ sheetBound)) ⌝ }
 {
     let needed = print(&mut out[..0], sheet);
     if needed <= out.len() {

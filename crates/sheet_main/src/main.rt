@@ -2,14 +2,19 @@
 // 1,000: nothing beyond is read.
 ghost use mathlib.Core.Path.{_≡_};
 ghost use lib.ListN.{length};
+ghost use Rattle.sheet.specs.Bounds.{sheetBound};
+
+// Bytes read at most.
+const INPUT: usize = 1000;
 
 // Zeros, as many as the longest text that a sheet prints.
-fn room() -> [u8; 1060000]
-    ensures { λ r. ⌜ 1060000 ≡ length r ⌝ }
+fn room() -> [u8; sheet::SHEET_MAX]
+    ensures { λ r. ⌜ sheetBound ≡ length r ⌝ }
 {
-    [0; 1060000]
+    [0; sheet::SHEET_MAX]
 }
 
+// What a sheet prints, on standard output.
 fn print(sheet: &[u8], out: &mut [u8]) {
     let n = sheet::run(sheet, out);
     let k = io::count(n as isize, out);
@@ -17,7 +22,7 @@ fn print(sheet: &[u8], out: &mut [u8]) {
 }
 
 fn main() {
-    let mut input = [0u8; 1000];
+    let mut input = [0u8; INPUT];
     let mut out = room();
     let n = io::read_full(0, &mut input);
     print(&input[..n], &mut out);

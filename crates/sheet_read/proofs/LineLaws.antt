@@ -12,9 +12,10 @@ use Rattle.hexadecimal.specs.Hexadecimal.{isDecimal}
 use Rattle.laws.proofs.Chain.{granted}
 use Rattle.laws.proofs.Apart.{both-left, both-right}
 use borrow.Author.Tests.{leb-true}
-use Rattle.sheet_read.specs.Sheet.{sameTo, upTo128, begins, isMark, markOf, marksAt, rightsAt, tens, threeDigits}
+use Rattle.sheet_read.specs.Sheet.{sameTo, begins, markOf, rightsAt, marksFrom}
+use Rattle.sheet_read.specs.Sheet.{mostAllow, tens, threeDigits, upTo128}
 
--- ---- keys and marks
+-- ---- keys
 
 pub no-key : (s : List ℕ) (at : ℕ) (key : List ℕ) → true ≡ sameTo s at key 0
 unfolding sameTo
@@ -29,15 +30,6 @@ pub key-all : (s : List ℕ) (at : ℕ) (key : List ℕ) (i n : ℕ) (all : Bool
     → all ≡ sameTo s at key i → all ≡ begins s at key
 key-all s at key i n all p e q h = subst (λ (k : ℕ). all ≡ sameTo s at key k) (omega arith) h
 
-pub no-marks : (s : List ℕ) (at : ℕ) → true ≡ marksAt s at 0
-unfolding marksAt
-no-marks s at = refl
-
-pub marks-more : (s : List ℕ) (at i b : ℕ) (all r : Bool) → all ≡ marksAt s at i → b ≡ getD s (at + i) 0 → r ≡ isMark b
-    → (all && r) ≡ marksAt s at (i + 1)
-unfolding marksAt
-marks-more s at i b all r p q h = rw (add-one i) (ap₂ _&&_ p (h ∙ ap isMark q))
-
 -- ---- rights
 
 pub length-rights : (s : List ℕ) (at n : ℕ) → length (rightsAt s at n) ≡ n
@@ -47,7 +39,7 @@ length-rights s at (suc n) = length-append (rightsAt s at n) (markOf (getD s (at
 
 -- an array of rights, of which n are opened
 abbrev pub Opened : List ℕ → List ℕ → ℕ → List ℕ → Type 0
-Opened s rights n now = now ≡ rightsAt s 7 n ++ drop n rights
+Opened s rights n now = now ≡ rightsAt s marksFrom n ++ drop n rights
 
 pub opened-none : (s rights : List ℕ) → Opened s rights 0 rights
 unfolding rightsAt
@@ -62,11 +54,11 @@ pub placed : (l m : List ℕ) (i x : ℕ) → length l ≡ i → i < length m �
 placed l m i x h k = rw (add-one i, drop-cons m i 0 k, set-at l (getD m i 0) (drop (suc i) m) x i h, append-assoc)
 
 pub opened-more : (s rights now : List ℕ) (i b m : ℕ) → i < 16 → 16 ≤ length rights → Opened s rights i now
-    → b ≡ getD s (7 + i) 0 → m ≡ markOf b → Opened s rights (i + 1) (set now i m)
+    → b ≡ getD s (marksFrom + i) 0 → m ≡ markOf b → Opened s rights (i + 1) (set now i m)
 unfolding rightsAt
 opened-more s rights now i b m h l e p q =
-    let v : m ≡ markOf (getD s (7 + i) 0) = q ∙ ap markOf p in
-    rw (e, placed (rightsAt s 7 i) rights i m (length-rights s 7 i) (omega arith), v, add-one i)
+    let v : m ≡ markOf (getD s (marksFrom + i) 0) = q ∙ ap markOf p in
+    rw (e, placed (rightsAt s marksFrom i) rights i m (length-rights s marksFrom i) (omega arith), v, add-one i)
 
 pub opened-room : (s rights now : List ℕ) (i : ℕ) → i < 16 → 16 ≤ length rights → Opened s rights i now → i < length now
 opened-room s rights now i h l e = omega (arith, opened-length s rights now i (omega arith) l e)
@@ -84,22 +76,27 @@ line-is p q p′ q′ b b′ h k e = rw (h, k, e)
 pub decimal-from : (d : ℕ) (r : Bool) → r ≡ isDecimal d → not r ≡ false → 48 ≤ d
 decimal-from d r e h = leb-true 48 d (both-left (leb 48 d) (leb d 57) (granted (isDecimal d) r e h))
 
+-- "no leading zero"
+pub no-zero : (d e f g : ℕ) → d ≡ 48 → 0 ≡ upTo128 d e f g
+unfolding upTo128
+no-zero d e f g h = rw h
+
 abbrev hundreds : ℕ → ℕ → ℕ → ℕ
 hundreds d e f = 100 * (d - 48) + 10 * (e - 48) + (f - 48)
 
 -- three digits, by the test after the third
 three : (d e f g : ℕ) (r : Bool) → r ≡ isDecimal f → not r ≡ false
-    → threeDigits d e f g ≡ cond (eqb g 10 && leb (hundreds d e f) 128) (hundreds d e f) 0
+    → threeDigits d e f g ≡ cond (eqb g 10 && leb (hundreds d e f) mostAllow) (hundreds d e f) 0
 unfolding threeDigits
 three d e f g r p h =
     let x : 10 * tens d e + (f - 48) ≡ hundreds d e f = omega arith in
     rw (granted (isDecimal f) r p h, x)
 
-pub three-yes : (d e f g : ℕ) (r : Bool) → r ≡ isDecimal f → not r ≡ false → (eqb g 10 && leb (hundreds d e f) 128) ≡ true
+pub three-yes : (d e f g : ℕ) (r : Bool) → r ≡ isDecimal f → not r ≡ false → (eqb g 10 && leb (hundreds d e f) mostAllow) ≡ true
     → hundreds d e f ≡ threeDigits d e f g
 three-yes d e f g r p h k = rw (three d e f g r p h, k)
 
-pub three-no : (d e f g : ℕ) (r : Bool) → r ≡ isDecimal f → not r ≡ false → (eqb g 10 && leb (hundreds d e f) 128) ≡ false
+pub three-no : (d e f g : ℕ) (r : Bool) → r ≡ isDecimal f → not r ≡ false → (eqb g 10 && leb (hundreds d e f) mostAllow) ≡ false
     → 0 ≡ threeDigits d e f g
 three-no d e f g r p h k = rw (three d e f g r p h, k)
 
@@ -112,27 +109,27 @@ cond-le false x y m f g = g refl
 to-57 : (d : ℕ) → isDecimal d ≡ true → d ≤ 57
 to-57 d h = leb-true d 57 (both-right (leb 48 d) (leb d 57) h)
 
-three-le : (d e f g : ℕ) → threeDigits d e f g ≤ 128
+three-le : (d e f g : ℕ) → threeDigits d e f g ≤ mostAllow
 unfolding threeDigits
 three-le d e f g =
     let x : ℕ = 10 * tens d e + (f - 48) in
-    cond-le (isDecimal f && (eqb g 10 && leb x 128)) x 0 128
-    (λ h. leb-true x 128 (both-right (eqb g 10) (leb x 128) (both-right (isDecimal f) (eqb g 10 && leb x 128) h)))
+    cond-le (isDecimal f && (eqb g 10 && leb x mostAllow)) x 0 mostAllow
+    (λ h. leb-true x mostAllow (both-right (eqb g 10) (leb x mostAllow) (both-right (isDecimal f) (eqb g 10 && leb x mostAllow) h)))
     (λ h. omega arith)
 
-pub to-128 : (d e f g r : ℕ) → r ≡ upTo128 d e f g → r ≤ 128
+pub to-128 : (d e f g r : ℕ) → r ≡ upTo128 d e f g → r ≤ mostAllow
 unfolding upTo128
 to-128 d e f g r p =
     let three : ℕ = threeDigits d e f g in
     let two : ℕ = cond (eqb f 10) (tens d e) three in
     let one : ℕ = cond (eqb e 10) (d - 48) (cond (isDecimal e) two 0) in
     rw p
-    (cond-le (isDecimal d && not (eqb d 48)) one 0 128
+    (cond-le (isDecimal d && not (eqb d 48)) one 0 mostAllow
     (λ h.
     let u : d ≤ 57 = to-57 d (both-left (isDecimal d) (not (eqb d 48)) h) in
-    cond-le (eqb e 10) (d - 48) (cond (isDecimal e) two 0) 128
+    cond-le (eqb e 10) (d - 48) (cond (isDecimal e) two 0) mostAllow
     (λ _. omega arith)
-    (λ _. cond-le (isDecimal e) two 0 128
-    (λ k. cond-le (eqb f 10) (tens d e) three 128 (λ _. omega (arith, to-57 e k)) (λ _. three-le d e f g))
+    (λ _. cond-le (isDecimal e) two 0 mostAllow
+    (λ k. cond-le (eqb f 10) (tens d e) three mostAllow (λ _. omega (arith, to-57 e k)) (λ _. three-le d e f g))
     (λ _. omega arith)))
     (λ _. omega arith))

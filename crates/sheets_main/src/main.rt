@@ -1,26 +1,40 @@
-// Runs sheets. Standard input has, for each, its length in 8 hex digits, and its bytes. For each the program writes what the sheet prints,
-// from a buffer of just that length; `rest=ok` where a longer buffer is as it was behind the text; and `short=ok` where an empty buffer and one
-// that is a byte too short are as they were. In each case the same length must be answered.
+// Runs sheets. Standard input has, for each, its length in 8 hex digits, and its bytes. For each the program writes what the sheet
+// prints, from a buffer of just that length; `rest=ok` where a longer buffer is as it was behind the text; and `short=ok` where an empty
+// buffer and one that is a byte too short are as they were. In each case the same length must be answered.
 ghost use mathlib.Core.Path.{_≡_};
 ghost use lib.ListN.{length};
+ghost use Prim.Native.Nat.{_+_};
+ghost use Rattle.sheet.specs.Bounds.{sheetBound};
 
 // No sheet prints this byte.
+const FILLER: u8 = 165;
+
+// Bytes behind the text that must stay as they were.
+const BEHIND: u32 = 64;
+
+// Room for a sheet, and for the longest text that one prints, with what is behind.
+const INPUT: usize = 400000;
+
+const OUTPUT: usize = sheet::SHEET_MAX + BEHIND as usize;
+
+// The filler in every byte.
 fn fill(out: &mut [u8]) {
     for k in 0..out.len() {
-        out[k] = 165;
+        out[k] = FILLER;
     }
 }
 
 // Whether the bytes from an index on are as `fill` leaves them.
 fn filled(out: &[u8], from: usize) -> bool {
     for k in from..out.len() {
-        if out[k] != 165 {
+        if out[k] != FILLER {
             return false;
         }
     }
     true
 }
 
+// A line that says whether a check went well.
 fn print_check(name: &[u8], ok: bool) {
     io::write_all(1, name);
     if ok {
@@ -30,6 +44,7 @@ fn print_check(name: &[u8], ok: bool) {
     }
 }
 
+// What the sheet prints, from this buffer.
 fn write_text(sheet: &[u8], out: &mut [u8]) {
     fill(out);
     sheet::run(sheet, out);
@@ -55,18 +70,20 @@ fn part_left(sheet: &[u8], out: &mut [u8], bytes: u32, from: usize, needed: usiz
     left(sheet, &mut out[..k], from, needed)
 }
 
+// One sheet: its text, and the two checks.
 fn run_sheet(sheet: &[u8], out: &mut [u8]) {
     let n = sheet::run(sheet, &mut out[..0]);
     if n == 0 {
         return;
     }
     print_text(sheet, out, n as u32);
-    print_check(b"rest", part_left(sheet, out, n as u32 + 64, n, n));
+    print_check(b"rest", part_left(sheet, out, n as u32 + BEHIND, n, n));
     let empty = part_left(sheet, out, 0, 0, n);
     let short = part_left(sheet, out, n as u32 - 1, 0, n);
     print_check(b"short", empty & short);
 }
 
+// The sheet whose bytes come next.
 fn read_sheet(input: &mut [u8], out: &mut [u8]) {
     let n = io::read_full(0, input);
     run_sheet(&input[..n], out);
@@ -85,6 +102,7 @@ fn step(input: &mut [u8], out: &mut [u8]) -> bool {
     true
 }
 
+// All sheets.
 fn read_sheets(input: &mut [u8], out: &mut [u8]) {
     for _ in 0..1000000usize {
         if !step(input, out) {
@@ -93,18 +111,18 @@ fn read_sheets(input: &mut [u8], out: &mut [u8]) {
     }
 }
 
-// Room for a sheet.
-fn input_room() -> [u8; 400000]
+// Zeros, for a sheet.
+fn input_room() -> [u8; INPUT]
     ensures { λ r. ⌜ 400000 ≡ length r ⌝ }
 {
-    [0; 400000]
+    [0; INPUT]
 }
 
-// Room for the longest text that a sheet prints, and 64 bytes.
-fn output_room() -> [u8; 1060064]
-    ensures { λ r. ⌜ 1060064 ≡ length r ⌝ }
+// Zeros, for what it prints.
+fn output_room() -> [u8; OUTPUT]
+    ensures { λ r. ⌜ sheetBound + 64 ≡ length r ⌝ }
 {
-    [0; 1060064]
+    [0; OUTPUT]
 }
 
 fn main() {

@@ -1,17 +1,17 @@
 -- Texts written one after another, what is left to write, lengths, and digits.
 use mathlib.Core.Path.{_≡_, refl, sym, ap, _∙_}
-use mathlib.Core.Logic.{_⊎_, inl, inr, ⊎-elim}
 use mathlib.Core.List.{List, [], _∷_, _++_}
 use Prim.Native.Nat.{ℕ, zero, suc, _+_, _-_, _*_, _/_, _%_, _^_, _≤_, _<_}
 use native.Mathlib.Omega.{arith}
-use native.Mathlib.Decide.{decLt}
-use native.Mathlib.Nat.{add-zero, add-suc, suc-add, mul-suc, pow-suc}
+use native.Mathlib.Nat.{add-zero, add-suc, suc-add, mul-suc, pow-suc, mod-lt, mod-eq-of-lt}
 use native.Mathlib.Numerals.{add-one}
 use lib.ListN.{length, getD, set, drop, length-append, length-set, drop-of-length-le}
 use lib.Seq.{set-out, drop-cons}
+use lib.Dec.{ltb}
 use lib.Pow.{pow-add}
 use borrow.Author.Tests.{lt-ltb, le-ltb}
-use Rattle.text.specs.Text.{hexDigit, hex, decimalTo, decimal, line, over, Wrote}
+use Rattle.laws.proofs.Chain.{either}
+use Rattle.text.specs.Text.{hexDigit, hex, numeral, decimal, shortHex, line, over, Wrote}
 
 -- ---- one text after another
 
@@ -89,6 +89,9 @@ pub none-left : {o s o1 : List ℕ} {a a1 : ℕ} → Left o a s o1 a1 [] → Wro
 unfolding over
 none-left l = record { bytes = l .bytes; ends = omega (arith, l .ends) }
 
+pub left-kept : {o s u o1 : List ℕ} {a a1 : ℕ} → Left o a s o1 a1 u → length o1 ≡ length o
+left-kept {o} {s} {u} {o1} {a} {a1} l = sym (over-length o1 a1 u) ∙ (ap length (l .bytes) ∙ over-length o a s)
+
 -- byte i of a text
 pub byte-less : {o s o1 o2 : List ℕ} {a a1 a2 : ℕ} (i : ℕ) → i < length s → Left o a s o1 a1 (drop i s)
     → Wrote o1 a1 (getD s i 0 ∷ []) o2 a2 → Left o a s o2 a2 (drop (i + 1) s)
@@ -137,60 +140,55 @@ digits-done zero x h l = none-left l
 pub digits-end : (o : List ℕ) (a m x : ℕ) (o1 : List ℕ) (a1 n : ℕ) → n ≤ 0 → Left o a (hex m x) o1 a1 (hex n x) → a1 ≡ a + m
 digits-end o a m x o1 a1 n h l = omega (arith, hex-length m x, hex-length n x, l .ends)
 
--- ---- decimal digits
+-- ---- numerals: the last digit, after nothing and after the others
 
-lt-or-ge : (x y : ℕ) → (x < y) ⊎ (y ≤ x)
-lt-or-ge x y = go (decLt x y)
-  where
-    go : Dec (x < y) → (x < y) ⊎ (y ≤ x)
-    go (yes h) = inl h
-    go (no h) = inr (omega arith)
+numeral-few : (radix n x : ℕ) → x < radix → numeral radix (suc n) x ≡ hexDigit (x % radix) ∷ []
+unfolding numeral
+numeral-few radix n x h = rw (lt-ltb x radix h)
 
-pub decimal-few : (n x : ℕ) → x < 10 → decimalTo n x ≡ (48 + x % 10) ∷ []
-unfolding decimalTo
-decimal-few zero x h = refl
-decimal-few (suc n) x h = rw (lt-ltb x 10 h)
+numeral-more : (radix n x : ℕ) → radix ≤ x → numeral radix (suc n) x ≡ numeral radix n (x / radix) ++ (hexDigit (x % radix) ∷ [])
+unfolding numeral
+numeral-more radix n x h = rw (le-ltb x radix h)
 
-pub decimal-more : (n x : ℕ) → 10 ≤ x → decimalTo (suc n) x ≡ decimalTo n (x / 10) ++ ((48 + x % 10) ∷ [])
-unfolding decimalTo
-decimal-more n x h = rw (le-ltb x 10 h)
+last-digit : (radix x d : ℕ) → 0 < radix → radix ≤ 16 → d ≡ hexDigit (x % radix % 16) → d ≡ hexDigit (x % radix)
+last-digit radix x d l g e = e ∙ ap hexDigit (mod-eq-of-lt (omega (arith, mod-lt x l)))
 
--- a bound that suffices may grow
-pub decimal-bound : (n x : ℕ) → x < 10 ^ suc n → decimalTo n x ≡ decimalTo (suc n) x
-decimal-bound zero x h = decimal-few 0 x h ∙ sym (decimal-few 1 x h)
-decimal-bound (suc n) x h =
-    ⊎-elim
-    (λ l. decimal-few (suc n) x l ∙ sym (decimal-few (suc (suc n)) x l))
-    (λ g. rw (decimal-more n x g, decimal-more (suc n) x g, decimal-bound n (x / 10) (omega (arith, pow-suc 10 (suc n)))))
-    (lt-or-ge x 10)
+pub wrote-none : (o : List ℕ) (a radix n x : ℕ) → n ≡ 0 → Wrote o a (numeral radix n x) o a
+unfolding numeral
+wrote-none o a radix n x h = rw h (nothing o a)
+
+pub wrote-one : {o o1 o2 : List ℕ} {a d a1 a2 : ℕ} (radix n x : ℕ) → (n ≡ 0 → ⊥) → 0 < radix → radix ≤ 16 → x < radix → o1 ≡ o → a1 ≡ a
+    → d ≡ hexDigit (x % radix % 16) → Wrote o1 a1 (d ∷ []) o2 a2 → Wrote o a (numeral radix n x) o2 a2
+wrote-one radix zero x z l g h p q e w = absurd (z refl)
+wrote-one {d = d} radix (suc n) x z l g h p q e w = rw (numeral-few radix n x h, ← last-digit radix x d l g e) (rw (p, q) at w)
+
+pub wrote-more : {o t o1 o2 : List ℕ} {a r d a1 a2 : ℕ} (radix n x : ℕ) → (n ≡ 0 → ⊥) → 0 < radix → radix ≤ 16 → radix ≤ x
+    → Wrote o a (numeral radix (n - 1) (x / radix)) t r → o1 ≡ t → a1 ≡ r
+    → d ≡ hexDigit (x % radix % 16) → Wrote o1 a1 (d ∷ []) o2 a2 → Wrote o a (numeral radix n x) o2 a2
+wrote-more radix zero x z l g h v p q e w = absurd (z refl)
+wrote-more {d = d} radix (suc n) x z l g h v p q e w =
+    let m : suc n - 1 ≡ n = omega arith in
+    rw (numeral-more radix n x h, ← last-digit radix x d l g e) (both (rw m at v) (rw (p, q) at w))
 
 -- no more digits than the definition takes
-decimal-upto : (n x : ℕ) → length (decimalTo n x) ≤ suc n
-unfolding decimalTo
-decimal-upto zero x = omega arith
-decimal-upto (suc n) x =
-    ⊎-elim
-    (λ l. rw (decimal-few (suc n) x l) (omega arith))
-    (λ g. rw (decimal-more n x g, length-append (decimalTo n (x / 10)) ((48 + x % 10) ∷ [])) (omega (arith, decimal-upto n (x / 10))))
-    (lt-or-ge x 10)
+numeral-upto : (radix n x : ℕ) → length (numeral radix n x) ≤ n
+unfolding numeral
+numeral-upto radix zero x = omega arith
+numeral-upto radix (suc n) x =
+    let before = numeral radix n (x / radix) in
+    let last = hexDigit (x % radix) ∷ [] in
+    either (λ l. length (l ++ last) ≤ suc n) (ltb x radix) [] before (λ _. omega arith)
+    (λ _. rw (length-append before last) (omega (arith, numeral-upto radix n (x / radix))))
 
 pub decimal-length : (x : ℕ) → length (decimal x) ≤ 20
-decimal-length x = decimal-upto 19 x
+decimal-length x = numeral-upto 10 20 x
 
-pub decimal-next : (x : ℕ) → x < 2 ^ 64 → 10 ≤ x → decimal x ≡ decimal (x / 10) ++ ((48 + x % 10) ∷ [])
-decimal-next x f g = rw (decimal-more 18 x g, decimal-bound 18 (x / 10) (omega arith))
+pub short-length : (x : ℕ) → length (shortHex x) ≤ 16
+short-length x = numeral-upto 16 16 x
 
--- the last digit after nothing, and after the others
-pub wrote-one : {o o1 o2 : List ℕ} {a a1 a2 : ℕ} (x : ℕ) → x < 10 → o1 ≡ o → a1 ≡ a
-    → Wrote o1 a1 ((48 + x % 10) ∷ []) o2 a2 → Wrote o a (decimal x) o2 a2
-wrote-one x h p q w = rw (decimal-few 19 x h) (rw (p, q) at w)
-
-pub wrote-more : {o l o1 o2 : List ℕ} {a r a1 a2 : ℕ} (x : ℕ) → x < 2 ^ 64 → 10 ≤ x → Wrote o a (decimal (x / 10)) l r
-    → o1 ≡ l → a1 ≡ r → Wrote o1 a1 ((48 + x % 10) ∷ []) o2 a2 → Wrote o a (decimal x) o2 a2
-wrote-more x f g v p q w = rw (decimal-next x f g) (both v (rw (p, q) at w))
-
-pub decimal-room : {o o1 : List ℕ} {a a1 n : ℕ} (x : ℕ) → a ≤ 2 ^ 31 → Wrote o a (decimal x) o1 a1 → n ≡ a1 → n ≤ 2 ^ 32
-decimal-room x h w e = omega (arith, decimal-length x, w .ends)
+pub numeral-room : {o o1 : List ℕ} {a a1 m : ℕ} (radix n x : ℕ) → a ≤ 2 ^ 31 → n ≤ 20 → Wrote o a (numeral radix (n - 1) x) o1 a1 → m ≡ a1
+    → m ≤ 2 ^ 32
+numeral-room radix n x h g w e = omega (arith, numeral-upto radix (n - 1) x, w .ends)
 
 -- ---- lines
 

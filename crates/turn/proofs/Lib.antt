@@ -1,3 +1,1 @@
-pub mod Readiness
-pub mod LoopLaws
 pub mod Turns

@@ -1,14 +1,13 @@
--- A turn of a word by the tests of the code: refused, illegal, of one turn, or legal with elements.
-use Prim.Native.Nat.{ℕ, zero, _≤_}
-use mathlib.Core.Path.{_≡_, refl, sym, ap, _∙_}
+-- A turn of a word by the tests of the code: refused, illegal, of one turn, or of elements.
+use Prim.Native.Nat.{ℕ, _*_, _≤_}
+use mathlib.Core.Path.{_≡_, refl, sym, ap, _∙_, subst}
 use mathlib.Core.Logic.{⊎-elim}
-use mathlib.Core.Bool.{Bool, true, false, _&&_, _||_}
+use mathlib.Core.Bool.{Bool, true, false, cond}
 use mathlib.Core.List.{List}
 use mathlib.Core.Option.{none, some}
 use native.Mathlib.Omega.{arith}
-use lib.Dec.{T, eqb}
+use lib.Dec.{T}
 use lib.ListN.{length}
-use Rattle.laws.proofs.Apart.{apart as apart-of}
 use Rattle.answer.specs.declared.Answer.{Answer}
 use Rattle.answer.specs.declared.Answer.the-variants.{Finished, Illegal}
 use Rattle.answer.specs.declared.Verdict.{Verdict}
@@ -16,198 +15,161 @@ use Rattle.answer.specs.declared.Verdict.the-variants.{Accepted, Refused}
 use Rattle.control.specs.declared.Board.{Board}
 use Rattle.control.specs.declared.Control.{Control}
 use Rattle.control.specs.Board.{Valid, base}
+use Rattle.control.specs.Control.{withVstart}
 use Rattle.control.specs.Vtype.{sewOf}
-use Rattle.control.specs.Control.{setOf}
 use Rattle.control.proofs.Laws.{Possible, possible-apart, typed-well-apart, supported-sew-le}
 use Rattle.decode.specs.declared.Instruction.{Instruction}
-use Rattle.decode.specs.declared.Instruction.the-variants as I
-use Rattle.decode.specs.declared.Arithmetic.{Arithmetic}
-use Rattle.decode.specs.declared.Access.{Access}
-use Rattle.decode.specs.declared.MaskInstruction.{MaskInstruction}
-use Rattle.decode.specs.declared.Setting.{Setting}
 use Rattle.decode.specs.Word.{decodeOf}
-use Rattle.decode.specs.Fields.{ArithmeticFits, AccessFits, MaskFits, SettingFits, Fits}
-use Rattle.decode.proofs.Fields.{arm-fits}
-use Rattle.elementwise.specs.declared.Elementwise.{Elementwise}
-use Rattle.elementwise.specs.Elementwise.{computingOf, transferringOf, legalOf, InRange}
-use Rattle.elementwise.proofs.ElementwiseLaws.{computing-range, transferring-range}
+use Rattle.decode.specs.Fields.{Fits}
+use Rattle.decode.proofs.Fields as Decoded
+use Rattle.access.specs.Access.{nowhere}
 use Rattle.refusal.specs.Refusal.{refusalOf}
 use Rattle.refusal.proofs.RefusalLaws.{accepted-facts}
-use Rattle.turns.proofs.Laws.{turn-refused, one-turn}
-use Rattle.machine.specs.State.{State, Outcome, Core, withVstart, coreOf}
-use Rattle.machine.specs.OneTurn.{withScalar, avlFrom, typeFrom}
-use Rattle.machine.specs.Machine.{typedOf, maskApart, isWhole, existsAt, legalAt, refusalAt, endOf, resultAt, instructionOf, outcomeOf, turnOf}
-use Rattle.machine.proofs.Demands.{set-vstart}
-use Rattle.oneturn.specs.Lists.{Holds, lists, maskLists}
-use Rattle.oneturn.proofs.ResultLaws.{setting-result, mask-result}
-use Rattle.turn.specs.declared.Turned.{Turned}
-use Rattle.turn.specs.Ran.{given, left, turnBy, IsPlan, Legal}
+use Rattle.plan.specs.declared.Elementwise.{Elementwise}
+use Rattle.plan.specs.declared.OneTurn.{OneTurn}
+use Rattle.plan.specs.declared.Plan.{Plan}
+use Rattle.plan.specs.declared.Plan.the-variants as P
+use Rattle.plan.specs.Plan.{planOf}
+use Rattle.plan.specs.Legal.{oneTurnLegal, legalOf, checkedOf}
+use Rattle.plan.specs.Range.{OneTurnFits, PlanFits}
+use Rattle.plan.proofs.RangeLaws.{plan-range}
+use Rattle.turn_theory.proofs.Laws.{turn-rejected, one-turn}
+use Rattle.machine.specs.declared.Turned.{Turned}
+use Rattle.machine.specs.State.{State, Outcome, Core, coreOf}
+use Rattle.machine.specs.Call.{given, left}
+use Rattle.machine.specs.OneTurn.{oneTurnResult}
+use Rattle.machine.specs.Machine.{rejectionAt, resultAt, semanticsOf, outcomeOf, planTurn, turnOf}
+use Rattle.machine.proofs.Demands.{demand-1, result-vstart}
+use Rattle.execute.specs.Step.{coreAt}
+use Rattle.element_loop.specs.Runnable.{Runnable}
 
 -- ---- what an accepted state keeps to
 
-module _ (b : Board) (registers scalars memory : ℕ) (rights : List ℕ) (c : Control) (h : refusalOf b registers scalars memory rights c ≡ Accepted) where
+module _ (b : Board) (registers scalars memory : ℕ) (rights : List ℕ) (c : Control) (v : Verdict)
+    (q : v ≡ refusalOf b registers scalars memory rights c) (h : v ≡ Accepted) where
+  accepted : refusalOf b registers scalars memory rights c ≡ Accepted
+  accepted = sym q ∙ h
+
   possible : Possible b c
-  possible = possible-apart b c (accepted-facts b registers scalars memory rights c h .possible)
+  possible = possible-apart b c (accepted-facts b registers scalars memory rights c accepted .possible)
+
+  pub accepted-registers : registers ≡ 32 * b .vlenb
+  accepted-registers = accepted-facts b registers scalars memory rights c accepted .registers-length
 
   pub accepted-scalars : scalars ≡ 32
-  accepted-scalars = accepted-facts b registers scalars memory rights c h .scalars-length
+  accepted-scalars = accepted-facts b registers scalars memory rights c accepted .scalars-length
 
   -- with vill set, SEW by its bits is 8
   pub accepted-sew : Valid b → sewOf (c .vtype) ≤ 64
-  accepted-sew v = ⊎-elim (λ e. rw (e .0) (omega arith)) (λ e. supported-sew-le b (c .vtype) v (e .0)) (typed-well-apart b c (possible .typed))
+  accepted-sew w =
+      ⊎-elim (λ e. rw (e .0) (omega arith)) (λ e. supported-sew-le b (c .vtype) w (e .0)) (typed-well-apart b c (possible .typed))
+
+  pub accepted-bits : c .vl ≤ 8 * b .vlenb
+  accepted-bits = possible .vl
 
   pub accepted-vl : Valid b → c .vl ≤ 128
-  accepted-vl v = omega (arith, possible .vl, v .most)
+  accepted-vl w = omega (arith, possible .vl, w .most)
 
-  pub accepted-holds : (m : MaskInstruction) → Valid b → MaskFits m → Holds registers (b .vlenb) (c .vl) m
-  accepted-holds m v f =
-      record { whole = accepted-facts b registers scalars memory rights c h .registers-length; most = v .most; within = possible .vl; fits = f }
+pub decoded-fits : (word : ℕ) (d : Instruction) → d ≡ decodeOf word → Fits d
+decoded-fits word d e = rw e (Decoded.fits word)
 
--- ---- the registers of what was worked out
+-- ---- the plan that was checked: illegal, or legal and the word's own
 
-pub computes-in-range : (x : List ℕ) (c : Control) (a : Arithmetic) (e : Elementwise) → ArithmeticFits a → e ≡ computingOf x c a → InRange e
-computes-in-range x c a e f q = rw q (computing-range x c a f)
+module _ (b : Board) (c : Control) where
+  illegal-checked : (p : Plan) → checkedOf b c p ≡ P.Illegal → legalOf b c p ≡ false
+  unfolding legalOf
+  illegal-checked P.Illegal h = refl
+  illegal-checked (P.OneTurn t) h = go (legalOf b c (P.OneTurn t)) h
+    where
+      go : (l : Bool) → cond l (P.OneTurn t) P.Illegal ≡ P.Illegal → l ≡ false
+      go true h = cc
+      go false h = refl
+  illegal-checked (P.Elements e) h = go (legalOf b c (P.Elements e)) h
+    where
+      go : (l : Bool) → cond l (P.Elements e) P.Illegal ≡ P.Illegal → l ≡ false
+      go true h = cc
+      go false h = refl
 
-pub transfers-in-range : (b : Board) (x : List ℕ) (c : Control) (a : Access) (e : Elementwise) → AccessFits a → e ≡ transferringOf b x c a → InRange e
-transfers-in-range b x c a e f q = rw q (transferring-range b x c a f)
+  -- q is not `Illegal`
+  legal-checked : (p q : Plan) → checkedOf b c p ≡ q → (P.Illegal ≡ q → ⊥) → (p ≡ q) × (legalOf b c q ≡ true)
+  legal-checked p q h n = go (legalOf b c p) refl h
+    where
+      go : (l : Bool) → legalOf b c p ≡ l → cond l p P.Illegal ≡ q → (p ≡ q) × (legalOf b c q ≡ true)
+      go true e h = (h, ap (legalOf b c) (sym h) ∙ e)
+      go false e h = absurd (n h)
 
--- ---- the tests of the code are the definition's
+-- a plan that was checked, in the arm of the match
+module _ (b : Board) (x : List ℕ) (c : Control) (d : Instruction) (p : Plan) (h : p ≡ checkedOf b c (planOf b x c d)) where
+  one-turn-planned : (t : OneTurn) → p ≡ P.OneTurn t → (planOf b x c d ≡ P.OneTurn t) × (legalOf b c (P.OneTurn t) ≡ true)
+  one-turn-planned t e = legal-checked b c (planOf b x c d) (P.OneTurn t) (sym h ∙ e) (λ f. let z : _≡_ {A = ℕ} 0 1 = cc in omega arith)
 
-pub legal-mask : (b : Board) (m : MaskInstruction) (x : List ℕ) (c : Control) (typed apart v : Bool)
-    → typed ≡ typedOf b c → apart ≡ maskApart m (m .op) → (typed && (eqb (c .vstart) 0 && apart)) ≡ v → legalAt b (I.Mask m) x c ≡ v
-unfolding legalAt
-legal-mask b m x c typed apart v t a h = rw (← t, ← a) h
+  elements-planned : (e : Elementwise) → p ≡ P.Elements e → (planOf b x c d ≡ P.Elements e) × (legalOf b c (P.Elements e) ≡ true)
+  elements-planned e q = legal-checked b c (planOf b x c d) (P.Elements e) (sym h ∙ q) (λ f. let z : _≡_ {A = ℕ} 0 1 = cc in omega arith)
 
-pub tested-apart : (m : MaskInstruction) (p q apart : Bool) → apart ≡ maskApart m (m .op) → (p && (q && apart)) ≡ true → T (maskApart m (m .op))
-tested-apart m p q apart a h = let t : apart ≡ true = search apart-of in rw (← a, t) tt
+  pub one-turn-fits : (t : OneTurn) → Fits d → p ≡ P.OneTurn t → OneTurnFits t
+  one-turn-fits t f e = subst PlanFits (one-turn-planned t e .0) (plan-range b x c d f)
 
-pub legal-arithmetic : (b : Board) (a : Arithmetic) (x : List ℕ) (c : Control) (e : Elementwise) (typed there placed v : Bool)
-    → e ≡ computingOf x c a → typed ≡ typedOf b c → there ≡ existsAt c a → placed ≡ legalOf (b .elen) e
-    → (typed && (there && placed)) ≡ v → legalAt b (I.Arithmetic a) x c ≡ v
-unfolding legalAt
-legal-arithmetic b a x c e typed there placed v q t w p h = rw (← q, ← t, ← w, ← p) h
-
-pub legal-memory : (b : Board) (a : Access) (x : List ℕ) (c : Control) (e : Elementwise) (whole typed placed v : Bool)
-    → e ≡ transferringOf b x c a → whole ≡ isWhole (a .mode) → typed ≡ typedOf b c → placed ≡ legalOf (b .elen) e
-    → ((whole || typed) && placed) ≡ v → legalAt b (I.Memory a) x c ≡ v
-unfolding legalAt
-legal-memory b a x c e whole typed placed v q w t p h = rw (← q, ← w, ← t, ← p) h
+  pub one-turn-is-legal : (t : OneTurn) → p ≡ P.OneTurn t → T (oneTurnLegal b c t)
+  unfolding legalOf
+  one-turn-is-legal t e = rw (one-turn-planned t e .1) tt
 
 -- ---- a turn by what the state comes to
 
 -- no element is passed
 abbrev still : Answer → Control → Turned
-still a c = record { answer = a; passed = 0; address = 0; control = c }
+still a c = record { answer = a; passed = 0; place = nowhere; control = c }
 
-module _ (b : Board) (i : Instruction) (n : ℕ) (file x memory rights : List ℕ) (c : Control) (r : Turned) where
-  pub refused-turn : (a : Answer) → refusalAt b i rights (coreOf (given file x memory rights c)) (c .vstart) ≡ some a → r ≡ still a c
-      → left r file x memory rights ≡ turnBy b i n (given file x memory rights c)
-  refused-turn a h e =
-      ap (λ (q : Turned). left q file x memory rights) e ∙ sym (ap (outcomeOf b i rights) (turn-refused (instructionOf b i) _ _ a h))
+module _ (b : Board) (word : ℕ) (file x memory rights : List ℕ) (c : Control) where
+  abbrev before : State
+  before = given file x memory rights c
 
-  one-turn-is : (s : Core) → refusalAt b i rights (coreOf (given file x memory rights c)) (c .vstart) ≡ none
-      → endOf b i (coreOf (given file x memory rights c)) ≡ zero → s ≡ resultAt b i (coreOf (given file x memory rights c))
-      → r ≡ still Finished (withVstart (s .control) 0)
-      → left r (s .registers) (s .scalars) (s .memory) rights ≡ turnBy b i n (given file x memory rights c)
-  one-turn-is s h z q e =
-      ap (λ (t : Turned). left t (s .registers) (s .scalars) (s .memory) rights) e
-      ∙ ap (λ (t : Core). left (still Finished (withVstart (t .control) 0)) (t .registers) (t .scalars) (t .memory) rights) q
-      ∙ sym (ap (outcomeOf b i rights) (one-turn (instructionOf b i) _ _ h z))
+  pub refused-word : (n : ℕ) (v : Verdict) (a : Answer) (r : Turned) → v ≡ refusalOf b (length file) (length x) (length memory) rights c
+      → v ≡ Refused a
+      → r ≡ still a c → left r file x memory rights ≡ turnOf b word n before
+  refused-word n v a r q h e = ap (λ (t : Turned). left t file x memory rights) e ∙ sym (demand-1 b .refuses word n before a (sym q ∙ h))
 
-module _ (b : Board) (i : Instruction) (file x memory rights : List ℕ) (c : Control) where
-  state-refused : (a : Answer) → refusalOf b (length file) (length x) (length memory) rights c ≡ Refused a
-      → refusalAt b i rights (coreOf (given file x memory rights c)) (c .vstart) ≡ some a
-  unfolding refusalAt
-  state-refused a h = rw h
+  module _ (v : Verdict) (d : Instruction) (p : Plan) (q : v ≡ refusalOf b (length file) (length x) (length memory) rights c)
+      (h : v ≡ Accepted) (k : d ≡ decodeOf word) (u : p ≡ checkedOf b c (planOf b x c d)) where
+    -- the word's plan is w
+    planned-turn : (n : ℕ) (w : Plan) (o : Outcome) → planOf b x c d ≡ w → o ≡ planTurn b w n before → o ≡ turnOf b word n before
+    unfolding turnOf
+    planned-turn n w o e f = f ∙ ap (λ (z : Plan). planTurn b z n before) (sym e ∙ ap (planOf b x c) k)
 
-  pub word-illegal : refusalOf b (length file) (length x) (length memory) rights c ≡ Accepted → legalAt b i x c ≡ false
-      → refusalAt b i rights (coreOf (given file x memory rights c)) (c .vstart) ≡ some Illegal
-  unfolding refusalAt
-  word-illegal h l = rw (h, l)
+    rejection-is : (w : Plan) (l : Bool) → legalOf b c w ≡ l
+        → rejectionAt b w rights (coreOf before) (c .vstart) ≡ cond l none (some Illegal)
+    unfolding rejectionAt
+    rejection-is w l e = rw (sym q ∙ h, e)
 
-  pub word-legal : refusalOf b (length file) (length x) (length memory) rights c ≡ Accepted → legalAt b i x c ≡ true
-      → refusalAt b i rights (coreOf (given file x memory rights c)) (c .vstart) ≡ none
-  unfolding refusalAt
-  word-legal h l = rw (h, l)
+    pub illegal-word : (n : ℕ) (r : Turned) → p ≡ P.Illegal → r ≡ still Illegal c → left r file x memory rights ≡ turnOf b word n before
+    illegal-word n r e f =
+        let w : Plan = planOf b x c d in
+        planned-turn n w (left r file x memory rights) refl
+        (ap (λ (t : Turned). left t file x memory rights) f
+        ∙ sym (ap (outcomeOf b w rights)
+        (turn-rejected (semanticsOf b w) _ _ Illegal (rejection-is w false (illegal-checked b c w (sym u ∙ e))))))
 
-  pub legal-plan : (e : Elementwise) → Valid b → Fits i → refusalAt b i rights (coreOf (given file x memory rights c)) (c .vstart) ≡ none → IsPlan b i x c e
-      → Legal b i (given file x memory rights c) e
-  legal-plan e v f h p = record { valid = v; fits = f; is-legal = h; plan = p }
+    pub one-turn-word : (n : ℕ) (t : OneTurn) (file′ x′ : List ℕ) (next : Control) (r : Turned) → p ≡ P.OneTurn t
+        → ((m : List ℕ) → coreAt file′ m x′ next ≡ oneTurnResult b t (coreAt file m x (withVstart c 0))) → r ≡ still Finished next
+        → left r file′ x′ memory rights ≡ turnOf b word n before
+    one-turn-word n t file′ x′ next r e m f =
+        let w : Plan = P.OneTurn t in
+        let y = one-turn-planned b x c d p u t e in
+        let z : coreAt file′ memory x′ next ≡ resultAt b w (coreOf before) = m memory in
+        let i : next .vstart ≡ 0 = ap (λ (s : Core). s .control .vstart) z ∙ result-vstart b w (coreOf before) refl in
+        planned-turn n w (left r file′ x′ memory rights) (y .0)
+        (ap (λ (t : Turned). left t file′ x′ memory rights) f
+        ∙ ap (λ (v : ℕ). left (still Finished (withVstart next v)) file′ x′ memory rights) i
+        ∙ ap (λ (s : Core). left (still Finished (withVstart (s .control) 0)) (s .registers) (s .scalars) (s .memory) rights) z
+        ∙ sym (ap (outcomeOf b w rights) (one-turn (semanticsOf b w) _ _ (rejection-is w true (y .1)) refl)))
 
--- whether a word is refused, and what it needs where it is not
-pub ruleset legality = (legal-mask, legal-arithmetic, legal-memory, word-illegal, word-legal, legal-plan)
+    pub elements-runnable : (e : Elementwise) → Valid b → p ≡ P.Elements e → Runnable b before e
+    elements-runnable e w f =
+        let y = elements-planned b x c d p u e f in
+        record { valid = w; word = d; fits = decoded-fits word d k; plan = y .0; is-legal = rejection-is (P.Elements e) true (y .1) }
 
--- the turn of a word that is illegal
-pub ruleset refusing = (refused-turn, legality)
-
--- ---- instructions of one turn
-
-pub setting-turn : (b : Board) (t : Setting) (n : ℕ) (file x x′ memory rights : List ℕ) (c next : Control) (r : Turned)
-    → refusalOf b (length file) (length x) (length memory) rights c ≡ Accepted
-    → next ≡ setOf b c (typeFrom x (t .vtype)) (avlFrom x (t .avl)) → x′ ≡ withScalar x (t .rd) (next .vl) → r ≡ still Finished next
-    → left r file x′ memory rights ≡ turnBy b (I.Setting t) n (given file x memory rights c)
-unfolding legalAt endOf resultAt
-setting-turn b t n file x x′ memory rights c next r h q w e =
-    let z : next .vstart ≡ 0 = rw q (set-vstart b c (typeFrom x (t .vtype)) (avlFrom x (t .avl))) in
-    one-turn-is b (I.Setting t) n file x memory rights c r (record { registers = file; scalars = x′; memory = memory; control = next })
-    (word-legal b (I.Setting t) file x memory rights c h refl) refl
-    (setting-result b t (coreOf (given file x memory rights c)) c next x′ refl q w)
-    (e ∙ ap (λ (v : ℕ). still Finished (withVstart next v)) z)
-
--- an instruction on masks is legal only at vstart 0, so that vstart stays
-vstart-is : (b : Board) (m : MaskInstruction) (x : List ℕ) (c : Control) → legalAt b (I.Mask m) x c ≡ true → c .vstart ≡ 0
-unfolding legalAt
-vstart-is b m x c h = search apart-of
-
-pub mask-turn : (b : Board) (m : MaskInstruction) (n : ℕ) (file file′ x x′ memory rights : List ℕ) (c : Control) (r : Turned)
-    → refusalOf b (length file) (length x) (length memory) rights c ≡ Accepted → legalAt b (I.Mask m) x c ≡ true
-    → lists file′ x′ ≡ maskLists (b .vlenb) (c .vl) m (lists file x) (m .op) → r ≡ still Finished c
-    → left r file′ x′ memory rights ≡ turnBy b (I.Mask m) n (given file x memory rights c)
-unfolding endOf resultAt
-mask-turn b m n file file′ x x′ memory rights c r h l q e =
-    one-turn-is b (I.Mask m) n file x memory rights c r
-    (record { registers = file′; scalars = x′; memory = memory; control = withVstart c 0 })
-    (word-legal b (I.Mask m) file x memory rights c h l) refl
-    (mask-result b m (coreOf (given file x memory rights c)) (b .vlenb) (c .vl) (lists file′ x′) refl refl q)
-    (e ∙ ap (λ (v : ℕ). still Finished (withVstart c v)) (vstart-is b m x c l))
-
--- ---- every word
-
--- in an arm of the `match` on the decoded word: its fields are in range, and it takes the word's turn
-pub setting-fits : (word : ℕ) (d : Instruction) (t : Setting) → d ≡ decodeOf word → d ≡ I.Setting t → SettingFits t
-setting-fits word d t = arm-fits word d (I.Setting t)
-
-pub mask-fits : (word : ℕ) (d : Instruction) (m : MaskInstruction) → d ≡ decodeOf word → d ≡ I.Mask m → MaskFits m
-mask-fits word d m = arm-fits word d (I.Mask m)
-
-pub arithmetic-fits : (word : ℕ) (d : Instruction) (a : Arithmetic) → d ≡ decodeOf word → d ≡ I.Arithmetic a → ArithmeticFits a
-arithmetic-fits word d a = arm-fits word d (I.Arithmetic a)
-
-pub access-fits : (word : ℕ) (d : Instruction) (a : Access) → d ≡ decodeOf word → d ≡ I.Memory a → AccessFits a
-access-fits word d a = arm-fits word d (I.Memory a)
-
-pub decoded : (b : Board) (d i : Instruction) (word n : ℕ) (s : State) (o : Outcome) → d ≡ decodeOf word → d ≡ i → o ≡ turnBy b i n s → o ≡ turnOf b word n s
-unfolding turnOf
-decoded b d i word n s o q e h = h ∙ ap (λ (j : Instruction). turnBy b j n s) (sym e ∙ q)
-
-pub refused-word : (b : Board) (word n : ℕ) (file x memory rights : List ℕ) (c : Control) (v : Verdict) (a : Answer) (r : Turned)
-    → v ≡ refusalOf b (length file) (length x) (length memory) rights c → v ≡ Refused a → r ≡ still a c
-    → left r file x memory rights ≡ turnOf b word n (given file x memory rights c)
-unfolding turnOf
-refused-word b word n file x memory rights c v a r q h e =
-    refused-turn b (decodeOf word) n file x memory rights c r a (state-refused b (decodeOf word) file x memory rights c a (sym q ∙ h)) e
-
-pub accepted : (b : Board) (registers scalars memory : ℕ) (rights : List ℕ) (c : Control) (v : Verdict)
-    → v ≡ refusalOf b registers scalars memory rights c → v ≡ Accepted → refusalOf b registers scalars memory rights c ≡ Accepted
-accepted b registers scalars memory rights c v q h = sym q ∙ h
-
-pub illegal-word : (b : Board) (word n : ℕ) (file x memory rights : List ℕ) (c : Control) (d : Instruction) (r : Turned)
-    → refusalOf b (length file) (length x) (length memory) rights c ≡ Accepted → d ≡ decodeOf word → d ≡ I.Illegal → r ≡ still Illegal c
-    → left r file x memory rights ≡ turnOf b word n (given file x memory rights c)
-unfolding legalAt
-illegal-word b word n file x memory rights c d r h q e w =
-    decoded b d I.Illegal word n (given file x memory rights c) (left r file x memory rights) q e
-    (refused-turn b I.Illegal n file x memory rights c r Illegal (word-illegal b I.Illegal file x memory rights c h refl) w)
+    pub elements-word : (n : ℕ) (e : Elementwise) (o : Outcome) → p ≡ P.Elements e → o ≡ planTurn b (P.Elements e) n before
+        → o ≡ turnOf b word n before
+    elements-word n e o f = planned-turn n (P.Elements e) o (elements-planned b x c d p u e f .0)
 
 pub on-base : (b : Board) (word n : ℕ) (s : State) (o : Outcome) → b ≡ base → o ≡ turnOf b word n s → o ≡ turnOf base word n s
 on-base b word n s o e h = rw (← e) h

@@ -1,12 +1,12 @@
-// Runs instruction vectors through the public call. Standard input has records of lines: 'c' a case (word, allowance, vtype, vl, vstart,
-// vxrm, vxsat, and the lengths of the register file, the scalars, memory and the rights), 'x' a scalar, 'v' bytes of a register, 'p' the
-// right of a range of pages, and '.', upon which the turn is taken. For each it writes the answer, the number passed, the fault address, the
-// control record after, and every byte or scalar that has changed.
+// Runs instruction vectors through the public call. Standard input has records of lines: 'c' a case (word, allowance, the fields of the
+// control record, and the lengths of the register file, the scalars, memory and the rights), 'x' a scalar, 'v' bytes of a register, 'p' the
+// right of a range of pages, and '.', upon which the turn is taken. For each it writes the answer, the number passed, the fault address,
+// the control record after, and every byte or scalar that has changed.
 ghost use mathlib.Core.Path.{_≡_};
 ghost use Prim.Native.Nat.{_≤_};
 ghost use lib.ListN.{length};
 use control::Control;
-use turn::Turned;
+use machine::Turned;
 
 // ---- the state that a case starts from, but for what its lines say
 
@@ -134,26 +134,25 @@ fn read_end() {
 
 // ---- the turn, and what is written of it
 
-fn control_of(head: &[u8]) -> Control {
-    Control {
-        vtype: hexadecimal::number(head, 16, 16),
-        vl: hexadecimal::number(head, 32, 16),
-        vstart: hexadecimal::number(head, 48, 16),
-        vxrm: hexadecimal::number(head, 64, 16),
-        vxsat: hexadecimal::number(head, 80, 16),
-    }
-}
-
 fn print_turned(turned: Turned) {
     let answer = turned.answer;
+    let place = turned.place;
     let control = turned.control;
     io::print_decimal(1, answer::number(answer));
-    case_lines::space();
+    io::write_all(1, b" ");
     io::print_decimal(1, turned.passed);
-    case_lines::space();
-    io::print_hex(1, turned.address, 1);
-    case_lines::space();
-    case_lines::print_control(control);
+    io::write_all(1, b" ");
+    io::print_hex(1, place.address, 1);
+    io::write_all(1, b" ");
+    print_control(control);
+}
+
+// The control record on standard output.
+fn print_control(control: Control) {
+    let mut text = [0u8; 100];
+    let n = case_lines::control_text(&mut text, 0, control);
+    let k = io::count(n as isize, &text);
+    io::write_all(1, &text[..k]);
 }
 
 fn print_byte(label: &[u8], at: u64, byte: u8) {
@@ -205,7 +204,7 @@ fn print_changes(
     print_bytes(b" v", registers, registers_before);
     print_scalars(scalars, scalars_before);
     print_bytes(b" m", memory, memory_before);
-    case_lines::end_line();
+    io::write_all(1, b"\n");
 }
 
 fn take_turn(
@@ -220,7 +219,7 @@ fn take_turn(
 ) {
     let word = hexadecimal::number(head, 0, 8) as u32;
     let allowance = hexadecimal::number(head, 8, 8) as u32;
-    let control = control_of(head);
+    let control = case_lines::control_at(head, 16);
     print_turned(turn::turn(word, allowance, registers, scalars, memory, rights, control));
     print_changes(
         registers,

@@ -39,21 +39,21 @@ within f n e =
     let r : f % n ≡ 0 = search apart in
     sizes (λ k. f % k ≡ 0 → f + k ≤ 32) n (search apart) (λ h. omega arith) (λ h. omega arith) (λ h. omega arith) (λ h. omega arith) r
 
--- by cases on a test that refuses
+-- by cases on a test that must hold
 unless : (P : ViewPlace → Type 0) (t : Bool) (x y : ViewPlace) → P x → (t ≡ true → P y) → P (cond (not t) x y)
 unless P true x y p q = q refl
 unless P false x y p q = p
 
 -- a part ends within the file, so it has as many bytes as its place says
-pub part-end : (b : Board) (size f n : ℕ) (p : ViewPlace) → p ≡ placeOf b size f n → p .start + p .length ≤ size
+pub part-end : (b : Board) (bytes f n : ℕ) (p : ViewPlace) → p ≡ placeOf b bytes f n → p .start + p .size ≤ bytes
 unfolding placeOf
-part-end b size f n p e =
+part-end b bytes f n p e =
     rw e
-    (unless (λ q. q .start + q .length ≤ size) (eqb size (32 * b .vlenb)) _ _
+    (unless (λ q. q .start + q .size ≤ bytes) (eqb bytes (32 * b .vlenb)) _ _
     (omega arith)
-    (λ h. unless (λ q. q .start + q .length ≤ size) (isGroupOf f n) _ _
+    (λ h. unless (λ q. q .start + q .size ≤ bytes) (isGroupOf f n) _ _
     (omega arith)
-    (λ g. omega (arith, eqb-true size (32 * b .vlenb) h, mul-le-mul-right (b .vlenb) (within f n g)))))
+    (λ g. omega (arith, eqb-true bytes (32 * b .vlenb) h, mul-le-mul-right (b .vlenb) (within f n g)))))
 
-pub part-length : (b : Board) (l : List ℕ) (f n : ℕ) → length (partOf b l f n) ≡ placeOf b (length l) f n .length
+pub part-length : (b : Board) (l : List ℕ) (f n : ℕ) → length (partOf b l f n) ≡ placeOf b (length l) f n .size
 part-length b l f n = length-take-le _ _ (rw (length-drop _ l) (omega (arith, part-end b (length l) f n _ refl)))

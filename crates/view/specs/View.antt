@@ -14,22 +14,22 @@ unfoldable pub isGroupOf : ℕ → ℕ → Bool
 isGroupOf first count =
     (eqb count 1 || eqb count 2 || eqb count 4 || eqb count 8) && (leb first 31 && eqb (first % count) 0)
 
-abbrev pub refused : Answer → ViewPlace
-refused a = record { answer = a; start = 0; length = 0 }
+abbrev pub noPart : Answer → ViewPlace
+noPart a = record { answer = a; start = 0; size = 0 }
 
--- "A wrong file is 32, then 38. Both give an empty part." The file has 32 registers, and vN begins at byte VLENB * N
+-- "A wrong file is 32, then 38. Both give an empty part." By the file's number of bytes: it has 32 registers, and vN begins at VLENB * N
 unfoldable pub placeOf : Board → ℕ → ℕ → ℕ → ViewPlace
-placeOf b size first count =
-    cond (not (eqb size (32 * b .vlenb))) (refused BadRegisters)
-    (cond (not (isGroupOf first count)) (refused NoGroup)
-    (record { answer = Finished; start = b .vlenb * first; length = b .vlenb * count }))
+placeOf b bytes first count =
+    cond (not (eqb bytes (32 * b .vlenb))) (noPart BadRegisters)
+    (cond (not (isGroupOf first count)) (noPart NoGroup)
+    (record { answer = Finished; start = b .vlenb * first; size = b .vlenb * count }))
 
 -- "the very bytes of that group inside the lent file"
-abbrev pub bytesAt : ViewPlace → List ℕ → List ℕ
-bytesAt p registers = take (p .length) (drop (p .start) registers)
+abbrev pub partIn : ViewPlace → List ℕ → List ℕ
+partIn p registers = take (p .size) (drop (p .start) registers)
 
 abbrev pub partOf : Board → List ℕ → ℕ → ℕ → List ℕ
-partOf b registers first count = bytesAt (placeOf b (length registers) first count) registers
+partOf b registers first count = partIn (placeOf b (length registers) first count) registers
 
 -- and no copy of them: the part begins so many bytes after the file does. A reference points to a block, and to a byte in it
 abbrev pub pointAt : ℕ × ℕ → ℕ → ℕ × ℕ

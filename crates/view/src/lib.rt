@@ -4,15 +4,15 @@ ghost use lib.ListN.{length};
 ghost use denote.Ref.{ptr};
 ghost use Rattle.answer.specs.Answer.{numberOf};
 ghost use Rattle.control.specs.Board.{Valid, base};
-ghost use Rattle.view.specs.View.{isGroupOf, refused, placeOf, partOf, pointAt};
+ghost use Rattle.view.specs.View.{isGroupOf, noPart, placeOf, partOf, pointAt};
 use answer::Answer;
 use control::Board;
 
-// Where a group lies in the file, in bytes: both numbers are 0 beside a refusal.
+// Where a group lies in the file, in bytes: both numbers are 0 beside any other answer than 0.
 pub struct ViewPlace {
     pub answer: Answer,
     pub start: usize,
-    pub length: usize,
+    pub size: usize,
 }
 
 // Whether there is such a group.
@@ -25,58 +25,67 @@ fn is_group(first: usize, count: usize) -> bool
     false
 }
 
-fn refuse(answer: Answer) -> ViewPlace
-    ensures { λ r. ⌜ r ≡ refused answer ⌝ }
+// No part of the file, beside an answer.
+fn no_part(answer: Answer) -> ViewPlace
+    ensures { λ r. ⌜ r ≡ noPart answer ⌝ }
 {
     ViewPlace {
         answer,
         start: 0,
-        length: 0,
+        size: 0,
     }
 }
 
-// The place of a group on a board, in a file of `size` bytes.
-pub fn place_on(board: Board, size: usize, first: usize, count: usize) -> ViewPlace
+// The place of a group on a board, in a file of so many bytes.
+pub fn place_on(board: Board, bytes: usize, first: usize, count: usize) -> ViewPlace
     requires { ⌜ Valid board ⌝ }
-    ensures { λ r. ⌜ r ≡ placeOf board size first count ⌝ }
+    ensures { λ r. ⌜ r ≡ placeOf board bytes first count ⌝ }
 {
-    let whole = size as u64 == 32 * board.vlenb;
+    let whole = bytes as u64 == 32 * board.vlenb;
     let group = is_group(first, count);
     if !whole {
-        return refuse(Answer::BadRegisters);
+        return no_part(Answer::BadRegisters);
     }
     if !group {
-        return refuse(Answer::NoGroup);
+        return no_part(Answer::NoGroup);
     }
     let vlenb = board.vlenb as usize;
     ViewPlace {
         answer: Answer::Finished,
         start: vlenb * first,
-        length: vlenb * count,
+        size: vlenb * count,
     }
 }
 
-pub fn place(size: usize, first: usize, count: usize) -> ViewPlace
-    ensures { λ r. ⌜ r ≡ placeOf base size first count ⌝ }
+// The place of a group on the board of document 01.
+pub fn place(bytes: usize, first: usize, count: usize) -> ViewPlace
+    ensures { λ r. ⌜ r ≡ placeOf base bytes first count ⌝ }
 {
-    place_on(Board::base(), size, first, count)
+    place_on(Board::base(), bytes, first, count)
 }
 
 // The bytes of the group, or an empty part; the answer's number beside it.
 pub fn view_with<'a>(registers: &'a [u8], first: usize, count: usize, answer: &mut u64) -> &'a [u8]
-    ensures { λ r. ⌜ (now r ≡ partOf base (now (registers .entry)) first count) × ((now (answer .exit) ≡ numberOf (placeOf base (length (now (registers .entry))) first count .answer)) × (ptr r ≡ pointAt (ptr (registers .entry)) (placeOf base (length (now (registers .entry))) first count .start))) ⌝ }
+    ensures { λ r. ⌜
+        (now r ≡ partOf base (now (registers .entry)) first count)
+        × ((now (answer .exit) ≡ numberOf (placeOf base (length (now (registers .entry))) first count .answer))
+        × (ptr r ≡ pointAt (ptr (registers .entry)) (placeOf base (length (now (registers .entry))) first count .start)))
+        ⌝ }
 {
     let found = place(registers.len(), first, count);
     let found_answer = found.answer;
     *answer = answer::number(found_answer);
     let start = found.start;
-    let end = start + found.length;
+    let end = start + found.size;
     &registers[start..end]
 }
 
 // The same without the answer.
 pub fn view(registers: &[u8], first: usize, count: usize) -> &[u8]
-    ensures { λ r. ⌜ (now r ≡ partOf base (now (registers .entry)) first count) × (ptr r ≡ pointAt (ptr (registers .entry)) (placeOf base (length (now (registers .entry))) first count .start)) ⌝ }
+    ensures { λ r. ⌜
+        (now r ≡ partOf base (now (registers .entry)) first count)
+        × (ptr r ≡ pointAt (ptr (registers .entry)) (placeOf base (length (now (registers .entry))) first count .start))
+        ⌝ }
 {
     let mut answer = 0u64;
     view_with(registers, first, count, &mut answer)

@@ -41,4 +41,5 @@ part-lt f w x h = lt-of-lt-of-le h (pow-mono (div-le-self w f))
 pub high-lt : (w x y : ℕ) → x < 2 ^ w → y < 2 ^ w → x * y / 2 ^ w < 2 ^ w
 high-lt w x y h l = shr-lt w w (mul-lt w w h l)
 
-pub ruleset bounds = (wrap-lt, low-lt, choice-lt, flag-lt, min-lt, max-lt, ones-lt, quotient-lt, remainder-lt, part-lt, high-lt, and-lt, or-lt, xor-lt)
+pub ruleset bounds =
+    (wrap-lt, low-lt, choice-lt, flag-lt, min-lt, max-lt, ones-lt, quotient-lt, remainder-lt, part-lt, high-lt, and-lt, or-lt, xor-lt)

@@ -83,7 +83,8 @@ wrap-is w p n r j k h e = go (decLe n p)
     go (yes l) = rw (diff-pos p n l) (mod-is (2 ^ w) (p - n) r j k h (omega arith))
     go (no f) =
         let l : p < n = lt-of-not-le f in
-        rw (diff-neg p n l) (ap (λ (x : ℕ). 2 ^ w - suc x) (mod-is (2 ^ w) (n - suc p) (2 ^ w - suc r) (suc k) j (omega arith) (omega arith)) ∙ omega arith)
+        rw (diff-neg p n l)
+        (ap (λ (x : ℕ). 2 ^ w - suc x) (mod-is (2 ^ w) (n - suc p) (2 ^ w - suc r) (suc k) j (omega arith) (omega arith)) ∙ omega arith)
 
 -- what wraps, by an equation of naturals
 pub record Wrapped (w p n : ℕ) : Type 0 where
@@ -101,13 +102,27 @@ wrapped w p n = go (decLe n p)
     go : Dec (n ≤ p) → Wrapped w p n
     go (yes l) =
         let e = div-add-mod' (p - n) (2 ^ w) in
-        record { r = (p - n) % 2 ^ w; j = 0; k = (p - n) / 2 ^ w; is = ap (wrap w) (diff-pos p n l); bound = mod-lt (p - n) (pow-pos w); by = omega arith }
+        record {
+          r = (p - n) % 2 ^ w;
+          j = 0;
+          k = (p - n) / 2 ^ w;
+          is = ap (wrap w) (diff-pos p n l);
+          bound = mod-lt (p - n) (pow-pos w);
+          by = omega arith;
+        }
     go (no f) =
         let l : p < n = lt-of-not-le f in
         let y : ℕ = n - suc p in
         let e = div-add-mod' y (2 ^ w) in
         let h = mod-lt y (pow-pos w) in
-        record { r = 2 ^ w - suc (y % 2 ^ w); j = suc (y / 2 ^ w); k = 0; is = ap (wrap w) (diff-neg p n l); bound = omega (arith, pow-pos w); by = omega arith }
+        record {
+          r = 2 ^ w - suc (y % 2 ^ w);
+          j = suc (y / 2 ^ w);
+          k = 0;
+          is = ap (wrap w) (diff-neg p n l);
+          bound = omega (arith, pow-pos w);
+          by = omega arith;
+        }
 
 -- differences that agree modulo 2 ^ w wrap alike
 pub wrap-cong : (w p n q m j k : ℕ) → p + m + j * 2 ^ w ≡ q + n + k * 2 ^ w → wrap w (subℕ p n) ≡ wrap w (subℕ q m)
@@ -177,7 +192,8 @@ shr-diff u n m h = go (decLe m (n / u))
         let k : ℕ = n / u - m in
         let e : n / u ≡ m + k = omega arith in
         let s : (m + k) * u + n % u ≡ n = ap (λ (x : ℕ). x * u + n % u) (sym e) ∙ div-add-mod' n u in
-        ap (λ (z : ℤ). shrZ z u) (diff-is-pos n (m * u) (k * u + n % u) (omega arith)) ∙ ap pos (digits-div k (mod-lt n h)) ∙ sym (diff-is-pos (n / u) m k (omega arith))
+        ap (λ (z : ℤ). shrZ z u) (diff-is-pos n (m * u) (k * u + n % u) (omega arith)) ∙ ap pos (digits-div k (mod-lt n h))
+        ∙ sym (diff-is-pos (n / u) m k (omega arith))
     go (no f) =
         let l : n / u < m = lt-of-not-le f in
         let k : ℕ = m - suc (n / u) in
@@ -186,7 +202,8 @@ shr-diff u n m h = go (decLe m (n / u))
         let s : n / u * u + n % u ≡ n = div-add-mod' n u in
         let b : n % u < u = mod-lt n h in
         let r : u - suc (n % u) < u = omega arith in
-        ap (λ (z : ℤ). shrZ z u) (diff-is-neg n (m * u) (k * u + (u - suc (n % u))) (omega arith)) ∙ ap negsuc (digits-div k r) ∙ sym (diff-is-neg (n / u) m k (omega arith))
+        ap (λ (z : ℤ). shrZ z u) (diff-is-neg n (m * u) (k * u + (u - suc (n % u))) (omega arith)) ∙ ap negsuc (digits-div k r)
+        ∙ sym (diff-is-neg (n / u) m k (omega arith))
 
 pub wrap-diff : (w n m : ℕ) → wrap w (subℕ n (m * 2 ^ w)) ≡ n % 2 ^ w
 wrap-diff w n m = let s = div-add-mod' n (2 ^ w) in wrap-is w n (m * 2 ^ w) (n % 2 ^ w) m (n / 2 ^ w) (mod-lt n (pow-pos w)) (omega arith)

@@ -1,7 +1,8 @@
 -- The low w bits of a number that is known modulo 2 ^ 64.
 use mathlib.Core.Path.{_≡_, sym, ap, _∙_, subst⁻¹}
 use Prim.Native.Nat.{ℕ, _+_, _-_, _*_, _/_, _%_, _^_, _≤_, _<_}
-use native.Mathlib.Nat.{mod-lt, sub-add-cancel, div-add-mod', mul-add-mod-self-right, add-mod-mod, lt-of-le-of-lt, le-of-lt, mul-le-mul-left, mul-lt-mul-of-pos-right}
+use native.Mathlib.Nat.{mod-lt, sub-add-cancel, div-add-mod', mul-add-mod-self-right, add-mod-mod, lt-of-le-of-lt, le-of-lt}
+use native.Mathlib.Nat.{mul-le-mul-left, mul-lt-mul-of-pos-right}
 use lib.Bits.{bitAnd, and-mask}
 use native.Mathlib.Omega.{arith}
 use Rattle.width.specs.Width.{Width}
@@ -24,14 +25,16 @@ ones-shr {w} h =
 
 -- a remainder under a product
 pub mod-mul-mod : (x k m : ℕ) → (x % m * k) % m ≡ x * k % m
-mod-mul-mod x k m = sym (mul-add-mod-self-right (x / m * k) m (x % m * k)) ∙ ap (λ (y : ℕ). y % m) (omega (arith, ap (λ (y : ℕ). y * k) (div-add-mod' x m)))
+mod-mul-mod x k m =
+    sym (mul-add-mod-self-right (x / m * k) m (x % m * k)) ∙ ap (λ (y : ℕ). y % m) (omega (arith, ap (λ (y : ℕ). y * k) (div-add-mod' x m)))
 
 -- a mask of w ones takes the remainder by 2 ^ w
 pub and-ones : (x w m : ℕ) → m + 1 ≡ 2 ^ w → bitAnd x m ≡ x % 2 ^ w
 and-ones x w m e = ap (λ (y : ℕ). bitAnd x y) (omega (arith, suc-ones w)) ∙ and-mask x w
 
 -- the product by halves, modulo 2 ^ 64: a₁ b₁ is a multiple of 2 ^ 64, and the mixed products count by their low 32 bits
-pub halves : (a₁ a₀ b₁ b₀ : ℕ) → (a₀ * b₀ + ((a₁ * b₀ + a₀ * b₁) % 2 ^ 64 * 2 ^ 32) % 2 ^ 64) % 2 ^ 64 ≡ (a₁ * 2 ^ 32 + a₀) * (b₁ * 2 ^ 32 + b₀) % 2 ^ 64
+pub halves : (a₁ a₀ b₁ b₀ : ℕ)
+    → (a₀ * b₀ + ((a₁ * b₀ + a₀ * b₁) % 2 ^ 64 * 2 ^ 32) % 2 ^ 64) % 2 ^ 64 ≡ (a₁ * 2 ^ 32 + a₀) * (b₁ * 2 ^ 32 + b₀) % 2 ^ 64
 halves a₁ a₀ b₁ b₀ =
     ap (λ (y : ℕ). (a₀ * b₀ + y) % 2 ^ 64) (mod-mul-mod (a₁ * b₀ + a₀ * b₁) (2 ^ 32) (2 ^ 64))
     ∙ add-mod-mod (a₀ * b₀) ((a₁ * b₀ + a₀ * b₁) * 2 ^ 32) (2 ^ 64)

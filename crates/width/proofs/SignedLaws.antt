@@ -2,7 +2,8 @@
 use mathlib.Core.Path.{_≡_, refl, sym, ap, ap₂, _∙_, subst⁻¹, subst₂}
 use mathlib.Core.Bool.{Bool, true, false, cond}
 use Prim.Native.Nat.{ℕ, zero, suc, _+_, _-_, _*_, _/_, _%_, _^_, _≤_, _<_}
-use native.Mathlib.Nat.{mod-lt, mod-add-mod, two-pow-succ, zero-mod, div-le-self, div-lt-self, zero-lt-suc, div-one, mod-one, le-trans, le-of-eq, lt-of-le-of-lt, lt-of-lt-of-le, mul-le-mul, zero-add, mod-eq-of-lt, lt-of-not-le}
+use native.Mathlib.Nat.{mod-lt, mod-add-mod, two-pow-succ, zero-mod, div-le-self, div-lt-self, zero-lt-suc, div-one, mod-one, le-trans}
+use native.Mathlib.Nat.{le-of-eq, lt-of-le-of-lt, lt-of-lt-of-le, mul-le-mul, zero-add, mod-eq-of-lt, lt-of-not-le}
 use native.Mathlib.Decide.{decLe}
 use native.Mathlib.Omega.{arith}
 use lib.IntN.{ℤ, pos, negsuc, negℤ, natAbs, subℕ, _-ℤ_, _*ℤ_}
@@ -89,11 +90,25 @@ pub as-diff : (w x : ℕ) → 1 ≤ w → x < 2 ^ w → AsDiff w x
 as-diff w x h l = go (decLe (2 ^ w) (2 * x))
   where
     go : Dec (2 ^ w ≤ 2 * x) → AsDiff w x
-    go (yes f) = let e = half h in record { k = 1; small = omega arith; is = signed-high w x f ∙ ap (subℕ x) (omega arith); low = omega arith; high = omega arith }
+    go (yes f) =
+        let e = half h in
+        record {
+          k = 1;
+          small = omega arith;
+          is = signed-high w x f ∙ ap (subℕ x) (omega arith);
+          low = omega arith;
+          high = omega arith;
+        }
     go (no f) =
         let e = half h in
         let g : 2 * x < 2 ^ w = lt-of-not-le f in
-        record { k = 0; small = omega arith; is = signed-low w x g ∙ pos-diff x ∙ ap (subℕ x) (omega arith); low = omega arith; high = omega arith }
+        record {
+          k = 0;
+          small = omega arith;
+          is = signed-low w x g ∙ pos-diff x ∙ ap (subℕ x) (omega arith);
+          low = omega arith;
+          high = omega arith;
+        }
 
 -- the size of a signed value
 pub signed-mag : (w x : ℕ) → 1 ≤ w → x < 2 ^ w → mag (signed w x) < 2 ^ (w - 1)
@@ -110,7 +125,8 @@ signed-mag w x h l = go (decLe (2 ^ w) (2 * x))
 pub wrap-neg : (w x : ℕ) → 1 ≤ w → x < 2 ^ w → wrap w (negℤ (signed w x)) ≡ wrap w (subℕ 0 x)
 wrap-neg w x h l =
     let d : AsDiff w x = as-diff w x h l in
-    ap (λ (z : ℤ). wrap w (negℤ z)) (d .is) ∙ ap (wrap w) (neg-diff x (d .k * 2 ^ w)) ∙ wrap-cong w (d .k * 2 ^ w) x 0 x 0 (d .k) (omega arith)
+    ap (λ (z : ℤ). wrap w (negℤ z)) (d .is) ∙ ap (wrap w) (neg-diff x (d .k * 2 ^ w))
+    ∙ wrap-cong w (d .k * 2 ^ w) x 0 x 0 (d .k) (omega arith)
 
 -- only 0 is 0 and only all ones is −1
 pub signed-zero : (w x : ℕ) → x < 2 ^ w → signed w x ≡ pos 0 → x ≡ 0
@@ -132,7 +148,8 @@ mag-negate (suc r) a h = omega arith
 -- the one quotient that does not fit has the divisor −1
 pub quot-fits : (x y : ℤ) → SFits w64 x → (y ≡ negsuc 0 → ⊥) → SFits w64 (quotZ x y)
 quot-fits (pos a) (pos b) h f = record { sfits = omega (arith, div-le-self a b, h .sfits) }
-quot-fits (pos a) (negsuc b) h f = record { sfits = omega (arith, mag-negate (a / suc b) a (omega (arith, div-le-self a (suc b))), h .sfits) }
+quot-fits (pos a) (negsuc b) h f =
+    record { sfits = omega (arith, mag-negate (a / suc b) a (omega (arith, div-le-self a (suc b))), h .sfits) }
 quot-fits (negsuc a) (pos b) h f = record { sfits = omega (arith, mag-negate (suc a / b) a (div-le-self (suc a) b), h .sfits) }
 quot-fits (negsuc a) (negsuc zero) h f = absurd (f refl)
 quot-fits (negsuc a) (negsuc (suc b)) h f = record { sfits = omega (arith, div-lt-self (zero-lt-suc a) (lt-two b), h .sfits) }
@@ -190,19 +207,23 @@ in-range h = record { sfits = h }
 
 pub shr-back : (x : ℤ) (m : ℕ) → SFits w64 x → toZ w64 (ofZ w64 (shrZ (toZ w64 (ofZ w64 x)) m)) ≡ shrZ x m
 shr-back x m h =
-    ap (λ (z : ℤ). toZ w64 (ofZ w64 (shrZ z m))) (toZ-ofZ h) ∙ toZ-ofZ {w = w64} {z = shrZ x m} (record { sfits = lt-of-le-of-lt (mag-shr x m) (h .sfits) })
+    ap (λ (z : ℤ). toZ w64 (ofZ w64 (shrZ z m))) (toZ-ofZ h)
+    ∙ toZ-ofZ {w = w64} {z = shrZ x m} (record { sfits = lt-of-le-of-lt (mag-shr x m) (h .sfits) })
 
-pub op-fits : (f : ℤ → ℤ → ℤ) (x y : ℤ) → SFits w64 x → SFits w64 y → SFits w64 (f x y) → SFits w64 (f (toZ w64 (ofZ w64 x)) (toZ w64 (ofZ w64 y)))
+pub op-fits : (f : ℤ → ℤ → ℤ) (x y : ℤ) → SFits w64 x → SFits w64 y → SFits w64 (f x y)
+    → SFits w64 (f (toZ w64 (ofZ w64 x)) (toZ w64 (ofZ w64 y)))
 op-fits f x y hx hy h = subst₂ (λ (a b : ℤ). SFits w64 (f a b)) (sym (toZ-ofZ hx)) (sym (toZ-ofZ hy)) h
 
 -- an operand, and the product of two operands of at most 32 bits
 pub signed-read : (w a : ℕ) (x : ℤ) → x ≡ signed w a → mag x < 2 ^ 63 → toZ w64 (ofZ w64 x) ≡ signed w a
 signed-read w a x e h = toZ-ofZ (in-range h) ∙ e
 
-pub product-fits : (w a b : ℕ) (x y : ℤ) → x ≡ signed w a → y ≡ signed w b → mag x < 2 ^ 63 → mag y < 2 ^ 63 → Width (2 * w) → a < 2 ^ w → b < 2 ^ w
+pub product-fits : (w a b : ℕ) (x y : ℤ) → x ≡ signed w a → y ≡ signed w b → mag x < 2 ^ 63 → mag y < 2 ^ 63 → Width (2 * w) → a < 2 ^ w
+    → b < 2 ^ w
     → SFits w64 (toZ w64 (ofZ w64 x) *ℤ toZ w64 (ofZ w64 y))
 product-fits w a b x y p q hx hy s h l =
-    rw (signed-read w a x p hx, signed-read w b y q hy) (mul-fits (2 ^ 31) (2 ^ 31) (signed w a) (signed w b) (narrow-abs w a s h) (narrow-abs w b s l) (lit< tt))
+    rw (signed-read w a x p hx, signed-read w b y q hy)
+    (mul-fits (2 ^ 31) (2 ^ 31) (signed w a) (signed w b) (narrow-abs w a s h) (narrow-abs w b s l) (lit< tt))
 
 pub lt-back : (x y : ℤ) → SFits w64 x → SFits w64 y → ltZ (toZ w64 (ofZ w64 x)) (toZ w64 (ofZ w64 y)) ≡ ltZ x y
 lt-back x y hx hy = ap₂ ltZ (toZ-ofZ hx) (toZ-ofZ hy)
@@ -219,7 +240,8 @@ bias w x h l = go (decLe (2 ^ w) (2 * x))
     go : Dec (2 ^ w ≤ 2 * x) → signed w x ≡ subℕ ((x + 2 ^ (w - 1)) % 2 ^ w) (2 ^ (w - 1))
     go (yes f) =
         let e = half h in
-        let m : (x + 2 ^ (w - 1)) % 2 ^ w ≡ x - 2 ^ (w - 1) = mod-is (2 ^ w) (x + 2 ^ (w - 1)) (x - 2 ^ (w - 1)) 0 1 (omega arith) (omega arith) in
+        let m : (x + 2 ^ (w - 1)) % 2 ^ w ≡ x - 2 ^ (w - 1) =
+        mod-is (2 ^ w) (x + 2 ^ (w - 1)) (x - 2 ^ (w - 1)) 0 1 (omega arith) (omega arith) in
         signed-high w x f ∙ diff-eq x (2 ^ w) ((x + 2 ^ (w - 1)) % 2 ^ w) (2 ^ (w - 1)) (omega arith)
     go (no f) =
         let e = half h in

@@ -4,7 +4,7 @@ use lib.IntN.{ℤ, pos, negsuc, subℕ}
 use mathlib.Core.Bool.{Bool, cond}
 use lib.Dec.{ltb}
 
--- a width that a u64 holds
+-- for contracts of inner functions, not to be believed: a width that a u64 holds
 pub record Width (w : ℕ) : Type 0 where
   pub some : 1 ≤ w
   pub most : w ≤ 64

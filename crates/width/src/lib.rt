@@ -26,6 +26,7 @@ pub fn low(sew: u64, x: u64) -> u64
     x & ones(sew)
 }
 
+// The sum, wrapped at sew bits.
 pub fn add(sew: u64, a: u64, b: u64) -> u64
     requires { ⌜ Width sew ⌝ }
     ensures { λ r. ⌜ r ≡ (a + b) % 2 ^ sew ⌝ }
@@ -33,6 +34,7 @@ pub fn add(sew: u64, a: u64, b: u64) -> u64
     low(sew, std::num::wrapping_add_u64(a, b))
 }
 
+// a - b, wrapped at sew bits.
 pub fn sub(sew: u64, a: u64, b: u64) -> u64
     requires { ⌜ Width sew ⌝ }
     ensures { λ r. ⌜ r ≡ wrap sew (subℕ a b) ⌝ }
@@ -53,6 +55,7 @@ pub fn mul64(a: u64, b: u64) -> u64
     std::num::wrapping_add_u64(a0 * b0, mixed << 32)
 }
 
+// The product, wrapped at sew bits.
 pub fn mul(sew: u64, a: u64, b: u64) -> u64
     requires { ⌜ Width sew ⌝ }
     ensures { λ r. ⌜ r ≡ a * b % 2 ^ sew ⌝ }

@@ -5,4 +5,10 @@ use Rattle.capi.proofs.prashunde_csr_write.Tie as tie
 
 pub prashunde-csr-write-spec : {M : Type 1} → statement M
 prashunde-csr-write-spec =
-    tie.close (tie.spec (λ c κs. search needs) (λ c κs. search needs) (λ c κs. search needs) (λ c κs. search needs) (λ c. (search written-number, search written-fields)))
+    tie.close
+    (tie.spec
+    (λ c κs. search needs)
+    (λ c κs. search needs)
+    (λ c κs. search needs)
+    (λ c κs. search needs)
+    (λ c. (search written-number, search written-fields)))

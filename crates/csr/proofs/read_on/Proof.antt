@@ -21,11 +21,22 @@ read-on-spec =
     (λ c. rw (sym (c .before .possible .ensures) ∙ not-true _ (c .if1 .taken)))
     (λ c. omega (arith, possible-apart _ _ (possible (c .before .before))))
     (λ c. omega (arith, possible-apart _ _ (possible (c .before .before .before))))
+    (λ c.
+    let n = c .match .rest in
+    rw (
+      possible (c .before),
+      ne-eqb _ _ (n .0 .0 .0 .0 .0 .0 .1),
+      ne-eqb _ _ (n .0 .0 .0 .0 .0 .1),
+      ne-eqb _ _ (n .0 .0 .0 .0 .1),
+      ne-eqb _ _ (n .0 .0 .0 .1),
+      ne-eqb _ _ (n .0 .0 .1),
+      ne-eqb _ _ (n .0 .1),
+      ne-eqb _ _ (n .1),
+    ))
     (λ c. rw (possible (c .before), c .match .keys1))
     (λ c. rw (possible (c .before), c .match .keys2))
     (λ c. rw (possible (c .before), c .match .keys3))
     (λ c. rw (possible (c .before .before .before), c .before .before .match .keys4))
     (λ c. rw (possible (c .before), c .match .keys5))
     (λ c. rw (possible (c .before), c .match .keys6))
-    (λ c. rw (possible (c .before), c .match .keys7))
-    (λ c. rw (possible (c .before), ne-eqb _ _ (c .match .rest .0 .0 .0 .0 .0 .0 .1), ne-eqb _ _ (c .match .rest .0 .0 .0 .0 .0 .1), ne-eqb _ _ (c .match .rest .0 .0 .0 .0 .1), ne-eqb _ _ (c .match .rest .0 .0 .0 .1), ne-eqb _ _ (c .match .rest .0 .0 .1), ne-eqb _ _ (c .match .rest .0 .1), ne-eqb _ _ (c .match .rest .1))))
+    (λ c. rw (possible (c .before), c .match .keys7)))

@@ -19,7 +19,9 @@ write-on-spec =
     (λ c. rw (sym (c .before .possible .ensures) ∙ not-true _ (c .if1 .taken)))
     (λ c. search needs)
     (λ c. search needs)
-    (λ c. rw (possible (c .before), ne-eqb _ _ (c .match .rest .0 .0 .0 .1), ne-eqb _ _ (c .match .rest .0 .0 .1), ne-eqb _ _ (c .match .rest .0 .1), ne-eqb _ _ (c .match .rest .1)))
+    (λ c.
+    let n = c .match .rest in
+    rw (possible (c .before), ne-eqb _ _ (n .0 .0 .0 .1), ne-eqb _ _ (n .0 .0 .1), ne-eqb _ _ (n .0 .1), ne-eqb _ _ (n .1)))
     (λ c. rw (possible (c .before .before), c .before .match .keys1))
     (λ c. rw (possible (c .before), c .match .keys2))
     (λ c. rw (possible (c .before), c .match .keys3))

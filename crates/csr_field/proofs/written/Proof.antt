@@ -1,6 +1,5 @@
 -- `written` meets its contract: a walk of its MIR, by hand. The copy of the record is lent to `write` for a lifetime that is made for
--- the call, and comes back at the
--- last value that `write` tells of it. Assumes nothing.
+-- the call, and comes back at the last value that `write` tells of it. Assumes nothing.
 use mathlib.Core.Path.{_≡_, refl, ap, subst}
 use Prim.Native.Nat.{ℕ, _<_, _^_}
 use mathlib.Core.List.{[], _∷_, List}
@@ -13,16 +12,18 @@ use package.base.Logic.{SProp, ent, sep, emp, via, fst∗, id⊢}
 use package.base.Fml.{Fml, GName, ftrue, fsep, flft, fres, flent, fat, froom, fdies}
 use prog.Memory.{Memory}
 use prog.Routine.{Routine}
-use prog.Wp.{Heap, Env, Calls, Loops, WpFn, Tables}
+use prog.Wp.{Heap, Env, Calls, Loops, WpFn}
 use ghost.Atoms.{Atoms, sem}
 use contract.Monad.{Fun, fact}
-use contract.Running.{givenOf, tables, tablesOf}
-use types.Kit.{Given, Item, Sq, runs, lands, atRet, ‵, raw, _⊛_, some, later, _$_, _∵_, !, qed, by, move, drop, use1, use2, use3, split, join, pick, fsplit, fjoin, fpick, fpack, suffices, frame, await, rewrite, done}
-use types.Run.{look, init, forget, stop, from, load, of-opd, addr, assigns, and-then, no-more, land, returns, enter, alloc1, alloc0, params1, pass1, pass0, free1, free0}
+use contract.Running.{givenOf}
+use types.Kit.{Given, Item, Sq, runs, lands, atRet, ‵, raw, _⊛_, some, later, _$_, _∵_, !, qed, by, move, drop, use1, use2, use3, split}
+use types.Kit.{join, pick, fsplit, fjoin, fpick, fpack, suffices, frame, await, rewrite, done}
+use types.Run.{look, init, forget, stop, from, load, of-opd, addr, assigns, and-then, no-more, land, returns, enter, alloc1, alloc0}
+use types.Run.{params1, pass1, pass0, free1, free0}
 use types.Part.{agg}
 use types.Tokens.{lft-new, lft-end}
 use types.SemTy.{Body}
-use sound.WpLaws.{FmC, fmOf, WpFn-mono}
+use sound.WpLaws.{FmC}
 use denote.RattleType.{owns}
 use denote.Laws.{Is, shows}
 use denote.Lend.{lends-ref, ref-back}
@@ -37,9 +38,8 @@ use denote.Enum.Laws as EL
 use denote.Triple.Statement.{Contract, Triple}
 use denote.Triple.Call.{calls-at}
 use denote.Triple.Entry.{onEntry}
-use denote.Triple.Spec.{Meets, tripleOf}
-use denote.Triple.Table.{entered, cited}
-use denote.Triple.Walked.{says, Stays, stay-none, walkOf, AllGo, goes-none, Walks, ends-at, walked, walk-meets}
+use denote.Triple.Spec.{tripleOf}
+use denote.Triple.Walked.{says, Stays, stay-none, walkOf, goes-none, Walks, ends-at, walked}
 use denote.Exit.{yes}
 use Rattle.answer.specs.declared.Answer.{Answer}
 use Rattle.answer.proofs.Answer as N
@@ -53,6 +53,7 @@ use Rattle.csr.specs.Csr.{writtenOf}
 use Rattle.csr.proofs.CsrWrite as R
 use Rattle.csr.proofs.CsrWrite.Laws as R′
 use Rattle.csr_field.proofs.Spelled.{val, vals, only, U, Ref}
+use Rattle.csr_field.proofs.Walks.{with-numbers, numbers-go, by-walk}
 use Rattle.csr_field.proofs.write as g
 use Rattle.csr_field.proofs.write.Symbol as g-def
 use Rattle.csr_field.proofs.write.Symbol.{name as #csr_field·write}
@@ -67,7 +68,7 @@ abbrev Arg : Type 0
 Arg = Control × (ℕ × (ℕ × Unit {0}))
 
 abbrev stayed : Stays (f.ended .signature .params) (f.ended .kept)
-stayed = (stay-none (λ _. T.the-row) yes, (stay-none (λ _. u64) yes, (stay-none (λ _. u64) yes, tt)))
+stayed = with-numbers (stay-none (λ _. T.the-row) yes)
 
 abbrev result-val : CsrWrite → Val
 result-val = SL.val R.the-type R′.the-laws
@@ -223,28 +224,12 @@ module _ {M : Type 1} (𝓤 : URA M) (H : Heap 𝓤) (A : Atoms 𝓤) (W : Given
       (λ κs qs bounds a _ are. via 𝓤 _ (fst∗ 𝓤 _ (emp 𝓤)) (walk 𝓤 H A W at-mem run (a .0) (a .1 .0) (a .1 .1 .0) (are .0) (are .1 .0 .1)
       (are .1 .1 .0 .1) C Λ fm known))
 
-  goes : AllGo 𝓤 H A W 0 (f.signature .params) (f.ended .kept) stayed
-  goes = (
-    goes-none 𝓤 H A W 0 (λ _. T.the-row) yes (λ κs x f. refl),
-    (
-      goes-none 𝓤 H A W 0 (λ _. u64) yes (λ κs x f. refl),
-      (goes-none 𝓤 H A W 0 (λ _. u64) yes (λ κs x f. refl), tt),
-    ),
-  )
-
-written-meets : {M : Type 1} (𝓤 : URA M) (H : Heap 𝓤) (A : Atoms 𝓤) (W : Given 𝓤 H A) (at-mem : Memory → SProp 𝓤) (run : Routine → Fun 𝓤)
-    (𝓣 : Tables 𝓤 H)
-    → Triple 𝓤 (𝓣 .C #csr_field·write) (Callee 𝓤 H A at-mem run)
-    → Meets 𝓤 H A f.signature (WpFn 𝓤 H (𝓣 .C) (𝓣 .Λ) code.function) (f.spec 𝓤 H A at-mem run)
-written-meets 𝓤 H A W at-mem run 𝓣 known =
-    walk-meets 𝓤 H A f.ended stayed W (goes 𝓤 H A W at-mem run) (f.clauses 𝓤 H A at-mem run) (WpFn 𝓤 H (𝓣 .C) (𝓣 .Λ) code.function)
-    (WpFn-mono 𝓤 H (W .laws) 𝓣 code.function) (written-walks 𝓤 H A W at-mem run (𝓣 .C) (𝓣 .Λ) (fmOf 𝓤 H (W .laws) 𝓣) known)
-
 pub written-spec : {M : Type 1} → stated.statement M
-unfolding code.routine tablesOf
+unfolding code.routine
 written-spec 𝓤 H 𝓜 𝓖 𝓡 =
-    entered 𝓤 H (tripleOf 𝓤 H (𝓖 .A) f.signature (f.spec 𝓤 H (𝓖 .A) (𝓜 .mem) (𝓡 .run)))
-    (tables 𝓤 H 𝓜 𝓡 code.env .C) (tables 𝓤 H 𝓜 𝓡 code.env .Λ) #csr_field·written code.function (code.unfolded 𝓤 H 𝓜 𝓡)
-    (written-meets 𝓤 H (𝓖 .A) (givenOf 𝓤 H 𝓜 𝓖) (𝓜 .mem) (𝓡 .run) (tablesOf 𝓤 H 𝓜 (tables 𝓤 H 𝓜 𝓡 code.env))
-    (cited 𝓤 H (Callee 𝓤 H (𝓖 .A) (𝓜 .mem) (𝓡 .run)) 𝓜 𝓡 code.env #csr_field·write g-def.routine code.calls-csr-field·write
-    (g-thm.met 𝓤 H 𝓜 𝓖 𝓡)))
+    let W = givenOf 𝓤 H 𝓜 𝓖 in
+    by-walk 𝓤 H 𝓜 𝓖 𝓡 code.env f.ended stayed (f.clauses 𝓤 H (𝓖 .A) (𝓜 .mem) (𝓡 .run)) #csr_field·written code.function
+    (code.unfolded 𝓤 H 𝓜 𝓡) (Callee 𝓤 H (𝓖 .A) (𝓜 .mem) (𝓡 .run)) #csr_field·write g-def.routine
+    code.calls-csr-field·write (g-thm.met 𝓤 H 𝓜 𝓖 𝓡)
+    (numbers-go 𝓤 H (𝓖 .A) W (stayed .0) (goes-none 𝓤 H (𝓖 .A) W 0 (λ _. T.the-row) yes (λ κs x f. refl)))
+    (written-walks 𝓤 H (𝓖 .A) W (𝓜 .mem) (𝓡 .run))

@@ -1,6 +1,6 @@
 use borrow.Author.Needs.{needs}
-use Rattle.decode.specs.Word.{decodeOf}
 use Rattle.laws.proofs.Chain.{chain}
+use Rattle.decode.specs.Word.{decodeOf}
 use Rattle.decode.proofs.decode.Statement.{statement}
 use Rattle.decode.proofs.decode.Tie as tie
 
@@ -9,5 +9,6 @@ unfolding decodeOf
 decode-spec =
     tie.close
     (tie.spec
-    (λ c κs. search needs) (λ c. search chain) (λ c κs. search needs) (λ c κs. search needs) (λ c κs. search needs)
-    (λ c. search chain) (λ c. search chain) (λ c. search chain) (λ c. search chain))
+    (λ c κs. search needs) (λ c κs. search needs) (λ c κs. search needs) (λ c κs. search needs)
+    (λ c. rw (← c .before .before .opcode .ensures) (search chain)) (λ c. rw (← c .before .before .opcode .ensures) (search chain))
+    (λ c. rw (← c .before .before .opcode .ensures) (search chain)) (λ c. rw (← c .before .opcode .ensures) (search chain)))

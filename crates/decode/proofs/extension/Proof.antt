@@ -1,5 +1,6 @@
+use Rattle.laws.proofs.Chain.{case}
 use Rattle.decode.specs.Listing.{vxunary0, find}
-use Rattle.decode.proofs.Rows.{at, agree, all, none}
+use Rattle.decode.proofs.Rows.{everyRow, missed}
 use Rattle.decode.proofs.extension.Statement.{statement}
 use Rattle.decode.proofs.extension.Tie as tie
 
@@ -8,5 +9,6 @@ unfolding vxunary0 find
 extension-spec =
     tie.close
     (tie.spec
-    (λ c. search at) (λ c. search at) (λ c. search at) (λ c. search at) (λ c. search at) (λ c. search at)
-    (λ c. agree none all (c .before .args .vs1) vxunary0 (c .match .rest)))
+    (λ c. search (case (find vxunary0))) (λ c. search (case (find vxunary0))) (λ c. search (case (find vxunary0)))
+    (λ c. search (case (find vxunary0))) (λ c. search (case (find vxunary0))) (λ c. search (case (find vxunary0)))
+    (λ c. missed everyRow vxunary0 (c .before .args .vs1) (c .match .rest)))

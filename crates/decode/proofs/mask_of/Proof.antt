@@ -1,6 +1,6 @@
 use borrow.Author.Needs.{needs}
+use Rattle.laws.proofs.Chain.{answered}
 use Rattle.decode.specs.Word.{maskOf}
-use Rattle.laws.proofs.Chain.{chain}
 use Rattle.decode.proofs.mask_of.Statement.{statement}
 use Rattle.decode.proofs.mask_of.Tie as tie
 
@@ -9,4 +9,5 @@ unfolding maskOf
 mask-of-spec =
     tie.close
     (tie.spec
-    (λ c. search chain) (λ c. search chain) (λ c. search chain) (λ c κs. search needs) (λ c. search chain))
+    (λ c κs. search needs) (λ c κs. search needs) (λ c κs. search needs) (λ c κs. search needs) (λ c. search answered depth 7)
+    (λ c. search answered depth 7))

@@ -1,5 +1,6 @@
-use Rattle.decode.specs.Word.{resolvedOf}
+use borrow.Author.Needs.{needs}
 use Rattle.laws.proofs.Chain.{chain}
+use Rattle.decode.specs.Word.{resolvedOf}
 use Rattle.decode.proofs.merge_or_move.Statement.{statement}
 use Rattle.decode.proofs.merge_or_move.Tie as tie
 
@@ -8,4 +9,4 @@ unfolding resolvedOf
 merge-or-move-spec =
     tie.close
     (tie.spec
-    (λ c. search chain) (λ c. search chain) (λ c. search chain))
+    (λ c κs. search needs) (λ c. search chain) (λ c κs. search needs) (λ c. search chain) (λ c. search chain))

@@ -1,7 +1,9 @@
-use mathlib.Core.Path.{_∙_}
+use mathlib.Core.Logic.{⊎-elim}
+use native.Mathlib.Omega.{arith}
 use borrow.Author.Needs.{needs}
-use Rattle.decode.specs.Listing.{listing, find, entryOf, inColumn}
-use Rattle.decode.proofs.Rows.{at, agree}
+use Rattle.laws.proofs.Chain.{case}
+use Rattle.decode.specs.Listing.{listing, find, entryOf}
+use Rattle.decode.proofs.Rows.{shared, absent}
 use Rattle.decode.proofs.opivi.Statement.{statement}
 use Rattle.decode.proofs.opivi.Tie as tie
 
@@ -10,6 +12,8 @@ unfolding listing find entryOf
 opivi-spec =
     tie.close
     (tie.spec
-    (λ c κs. search needs) (λ c. search at) (λ c. search at) (λ c. search at) (λ c. search at) (λ c. search at) (λ c. search at)
-    (λ c. search at) (λ c. search at) (λ c. search at) (λ c. search at) (λ c. search at) (λ c. search at)
-    (λ c. c .opi .ensures ∙ agree (inColumn 4) (inColumn 3) (c .before .before .args .funct6) listing (c .before .match .rest)))
+    (λ c κs. search needs) (λ c. search (case (entryOf 0b011))) (λ c. search (case (entryOf 0b011))) (λ c. search (absent 0b011))
+    (λ c. search (absent 0b011)) (λ c. search (absent 0b011)) (λ c. search (absent 0b011))
+    (λ c. shared 0b100 0b011 (c .before .before .before .args .funct6) _ tt tt (c .opivx .ensures)
+    (⊎-elim (λ w. omega arith) (⊎-elim (λ w. omega arith)
+    (⊎-elim (λ w. omega arith) (⊎-elim (λ w. omega arith) (λ w. omega arith)))) (c .before .if1 .came))))

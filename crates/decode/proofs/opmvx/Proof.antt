@@ -1,15 +1,18 @@
-use mathlib.Core.Path.{_∙_}
+use mathlib.Core.Logic.{⊎-elim}
+use native.Mathlib.Omega.{arith}
 use borrow.Author.Needs.{needs}
-use Rattle.decode.specs.Listing.{listing, find, entryOf, opmOf, inColumn, inOpm}
-use Rattle.decode.proofs.Rows.{at, agree}
+use Rattle.laws.proofs.Chain.{case}
+use Rattle.decode.specs.Listing.{listing, find, entryOf}
+use Rattle.decode.proofs.Rows.{shared, absent}
 use Rattle.decode.proofs.opmvx.Statement.{statement}
 use Rattle.decode.proofs.opmvx.Tie as tie
 
 pub opmvx-spec : {M : Type 1} → statement M
-unfolding listing find entryOf opmOf
+unfolding listing find entryOf
 opmvx-spec =
     tie.close
     (tie.spec
-    (λ c κs. search needs) (λ c. search at) (λ c. search at) (λ c. search at) (λ c. search at) (λ c. search at) (λ c. search at)
-    (λ c. search at) (λ c. search at) (λ c. search at) (λ c. search at) (λ c. search at)
-    (λ c. c .opm .ensures ∙ agree inOpm (inColumn 6) (c .before .before .args .funct6) listing (c .before .match .rest)))
+    (λ c κs. search needs) (λ c. search (case (entryOf 0b110))) (λ c. search (case (entryOf 0b110))) (λ c. search (case (entryOf 0b110)))
+    (λ c. search (case (entryOf 0b110))) (λ c. search (absent 0b110))
+    (λ c. shared 0b010 0b110 (c .before .before .before .args .funct6) _ tt tt (c .opmvv .ensures)
+    (⊎-elim (λ w. omega arith) (λ w. omega arith) (c .before .if1 .came))))

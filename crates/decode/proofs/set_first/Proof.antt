@@ -1,5 +1,6 @@
+use Rattle.laws.proofs.Chain.{case}
 use Rattle.decode.specs.Listing.{vmunary0, find}
-use Rattle.decode.proofs.Rows.{at, agree, all, none}
+use Rattle.decode.proofs.Rows.{everyRow, missed}
 use Rattle.decode.proofs.set_first.Statement.{statement}
 use Rattle.decode.proofs.set_first.Tie as tie
 
@@ -8,5 +9,5 @@ unfolding vmunary0 find
 set-first-spec =
     tie.close
     (tie.spec
-    (λ c. search at) (λ c. search at) (λ c. search at)
-    (λ c. agree none all (c .before .args .vs1) vmunary0 (c .match .rest)))
+    (λ c. search (case (find vmunary0))) (λ c. search (case (find vmunary0))) (λ c. search (case (find vmunary0)))
+    (λ c. missed everyRow vmunary0 (c .before .args .vs1) (c .match .rest)))

@@ -1,6 +1,6 @@
 use borrow.Author.Needs.{needs}
-use Rattle.decode.specs.Word.{settingOf}
 use Rattle.laws.proofs.Chain.{chain}
+use Rattle.decode.specs.Word.{settingOf}
 use Rattle.decode.proofs.setting_of.Statement.{statement}
 use Rattle.decode.proofs.setting_of.Tie as tie
 
@@ -9,6 +9,7 @@ unfolding settingOf
 setting-of-spec =
     tie.close
     (tie.spec
-    (λ c. search needs) (λ c κs. search needs) (λ c. search needs) (λ c. search (chain, c .avl-of .ensures))
-    (λ c. search needs) (λ c. search needs) (λ c. search chain)
-    (λ c κs. search needs) (λ c. search needs) (λ c. search (chain, c .avl-of2 .ensures)) (λ c. search chain))
+    (λ c κs. search needs) (λ c. search needs) (λ c κs. search needs) (λ c. rw (← c .before .avl-of .ensures) (search chain))
+    (λ c κs. search needs) (λ c. search needs) (λ c. search needs) (λ c κs. search needs)
+    (λ c. rw (← c .before .rs1 .ensures) (search chain)) (λ c κs. search needs) (λ c κs. search needs) (λ c. search needs)
+    (λ c κs. search needs) (λ c. rw (← c .before .before .avl-of2 .ensures, ← c .before .rs2 .ensures) (search chain)) (λ c. search chain))

@@ -1,5 +1,6 @@
+use Rattle.laws.proofs.Chain.{case}
 use Rattle.decode.specs.Listing.{vwxunary0, find}
-use Rattle.decode.proofs.Rows.{at, agree, all, none}
+use Rattle.decode.proofs.Rows.{everyRow, missed}
 use Rattle.decode.proofs.to_scalar.Statement.{statement}
 use Rattle.decode.proofs.to_scalar.Tie as tie
 
@@ -8,5 +9,5 @@ unfolding vwxunary0 find
 to-scalar-spec =
     tie.close
     (tie.spec
-    (λ c. search at) (λ c. search at)
-    (λ c. agree none all (c .before .args .vs1) vwxunary0 (c .match .rest)))
+    (λ c. search (case (find vwxunary0))) (λ c. search (case (find vwxunary0)))
+    (λ c. missed everyRow vwxunary0 (c .before .args .vs1) (c .match .rest)))

@@ -1,7 +1,6 @@
-use mathlib.Core.Logic.{⊎-elim}
 use borrow.Author.Needs.{needs}
+use Rattle.laws.proofs.Chain.{answered}
 use Rattle.decode.specs.Word.{wholeOf}
-use Rattle.laws.proofs.Chain.{chain}
 use Rattle.decode.proofs.whole_of.Statement.{statement}
 use Rattle.decode.proofs.whole_of.Tie as tie
 
@@ -10,6 +9,6 @@ unfolding wholeOf
 whole-of-spec =
     tie.close
     (tie.spec
-    (λ c. search chain) (λ c κs. search needs) (λ c. search chain) (λ c. search chain) (λ c. search needs) (λ c. search needs)
-    (λ c κs. search needs)
-    (λ c. ⊎-elim (λ w. search chain) (λ w. search chain) (c .before .if3 .came)))
+    (λ c κs. search needs) (λ c κs. search needs) (λ c κs. search needs) (λ c κs. search needs) (λ c. search needs) (λ c. search needs)
+    (λ c κs. search needs) (λ c. rw (← c .before .before .before .before .before .nf .ensures) (search answered depth 7))
+    (λ c. rw (← c .before .before .before .before .nf .ensures) (search answered depth 7)))

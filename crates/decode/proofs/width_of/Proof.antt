@@ -1,5 +1,6 @@
-use Rattle.decode.specs.Word.{widthOf}
+use borrow.Author.Needs.{needs}
 use Rattle.laws.proofs.Chain.{chain}
+use Rattle.decode.specs.Word.{widthOf}
 use Rattle.decode.proofs.width_of.Statement.{statement}
 use Rattle.decode.proofs.width_of.Tie as tie
 
@@ -8,4 +9,6 @@ unfolding widthOf
 width-of-spec =
     tie.close
     (tie.spec
-    (λ c. search chain) (λ c. search chain) (λ c. search chain) (λ c. search chain) (λ c. search chain))
+    (λ c κs. search needs) (λ c. rw (← c .before .funct3 .ensures) (search chain)) (λ c. rw (← c .before .funct3 .ensures) (search chain))
+    (λ c. rw (← c .before .funct3 .ensures) (search chain)) (λ c. rw (← c .before .funct3 .ensures) (search chain))
+    (λ c. rw (← c .before .funct3 .ensures) (search chain)))

@@ -6,14 +6,15 @@ use Rattle.operation.specs.declared.Op.{Op}
 use Rattle.operation.specs.declared.Shape.{Shape}
 use Rattle.operation.specs.Shape.{eewOf, shapeOf, largestSew}
 use Rattle.operation.proofs.ShapeLaws.{largest-le}
-use Rattle.element.specs.Element.{Operands}
+use Rattle.alu.specs.Element.{Operands}
 use Rattle.element_cases.proofs.run.Statement.{statement}
 use Rattle.element_cases.proofs.run.Tie as tie
 
 sew-le : (o : Op) (l w : ℕ) → l ≡ largestSew o → w ≤ l → w ≤ 64
 sew-le o l w e h = omega (arith, largest-le o)
 
-operands : (o : Op) (s : Shape) (l w a b h : ℕ) → s ≡ shapeOf o → l ≡ largestSew o → 8 ≤ w → w ≤ l → a < 2 ^ eewOf (s .vs2) w → b < 2 ^ eewOf (s .vs1) w
+operands : (o : Op) (s : Shape) (l w a b h : ℕ) → s ≡ shapeOf o → l ≡ largestSew o → 8 ≤ w → w ≤ l → a < 2 ^ eewOf (s .vs2) w
+    → b < 2 ^ eewOf (s .vs1) w
     → Operands o w a b (h % 2)
 operands o s l w a b h e f p q x y = record {
   least = p;

@@ -6,4 +6,5 @@ use Rattle.fixed.proofs.asubu.Tie as tie
 pub asubu-spec : {M : Type 1} → statement M
 asubu-spec =
     tie.close
-    (tie.spec (λ c κs. search needs) (λ c. search needs) (λ c κs. search needs) (λ c. search needs) (λ c κs. search needs) (λ c. search vasubu-is))
+    (tie.spec
+    (λ c κs. search needs) (λ c. search needs) (λ c κs. search needs) (λ c. search needs) (λ c κs. search needs) (λ c. search vasubu-is))

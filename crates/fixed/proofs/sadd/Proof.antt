@@ -7,12 +7,5 @@ pub sadd-spec : {M : Type 1} → statement M
 sadd-spec =
     tie.close
     (tie.spec
-    (λ c κs. search needs)
-    (λ c κs. search needs)
-    (λ c. search sums)
-    (λ c. search needs)
-    (λ c. search sums)
-    (λ c. search sums)
-    (λ c. search sums)
-    (λ c. search sums)
-    (λ c. search sums))
+    (λ c κs. search needs) (λ c κs. search needs) (λ c. search sums) (λ c. search needs)
+    (λ c. search sums) (λ c. search sums) (λ c. search sums) (λ c. search sums) (λ c. search sums))

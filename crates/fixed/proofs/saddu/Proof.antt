@@ -9,4 +9,6 @@ pub saddu-spec : {M : Type 1} → statement M
 unfolding vsaddu
 saddu-spec =
     tie.close
-    (tie.spec (λ c κs. search needs) (λ c. search needs) (λ c. unsigned-over _ _ _ (search) (omega arith)) (λ c. search needs) (λ c. unsigned-within _ _ (omega arith)))
+    (tie.spec
+    (λ c κs. search needs) (λ c. search needs) (λ c. unsigned-over _ _ _ (search) (omega arith)) (λ c. search needs)
+    (λ c. unsigned-within _ _ (omega arith)))

@@ -10,4 +10,5 @@ pub ssra-spec : {M : Type 1} → statement M
 unfolding vssra
 ssra-spec =
     tie.close
-    (tie.spec (λ c κs. search needs) (λ c. search needs) (λ c κs. search amount-lt) (λ c κs. search needs) (λ c. search (wraps-rounded, in-range)))
+    (tie.spec
+    (λ c κs. search needs) (λ c. search needs) (λ c κs. search amount-lt) (λ c κs. search needs) (λ c. search (wraps-rounded, in-range)))

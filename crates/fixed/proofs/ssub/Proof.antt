@@ -7,12 +7,5 @@ pub ssub-spec : {M : Type 1} → statement M
 ssub-spec =
     tie.close
     (tie.spec
-    (λ c κs. search needs)
-    (λ c κs. search needs)
-    (λ c. search differences)
-    (λ c. search needs)
-    (λ c. search differences)
-    (λ c. search differences)
-    (λ c. search differences)
-    (λ c. search differences)
-    (λ c. search differences))
+    (λ c κs. search needs) (λ c κs. search needs) (λ c. search differences) (λ c. search needs)
+    (λ c. search differences) (λ c. search differences) (λ c. search differences) (λ c. search differences) (λ c. search differences))

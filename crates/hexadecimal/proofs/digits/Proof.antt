@@ -1,8 +1,8 @@
 use mathlib.Core.Path.{_≡_}
 use Prim.Native.Nat.{_-_, _≤_}
 use borrow.Author.Needs.{needs}
-use Rattle.hexadecimal.specs.Hexadecimal.{digitsAt}
-use Rattle.hexadecimal.proofs.Laws.{no-digits, digits-more, reached}
+use Rattle.hexadecimal.specs.Hexadecimal.{isDigit, allAt, digitsAt}
+use Rattle.hexadecimal.proofs.Laws.{all-none, all-more, reached}
 use Rattle.hexadecimal.proofs.digits.Statement.{statement}
 use Rattle.hexadecimal.proofs.digits.Tie as tie
 
@@ -18,12 +18,12 @@ digits-spec =
     (tie.spec
     Inv-loop
     μ-loop
-    (λ c. (search needs, search no-digits))
+    (λ c. (search needs, search all-none))
     (λ c. search needs)
     (λ c. search needs)
     (λ c κs. search needs)
     (λ c κs. search needs)
     (λ c. search needs)
     (λ c. search needs)
-    (λ c. (search needs, search digits-more))
-    (λ c. search (reached digitsAt)))
+    (λ c. (search needs, search all-more))
+    (λ c. search (reached (allAt isDigit))))

@@ -1,7 +1,7 @@
 use Prim.Native.Nat.{_-_, _≤_}
 use borrow.Author.Needs.{needs}
 use Rattle.control.specs.Control.{reset}
-use Rattle.turn.specs.Ran.{given}
+use Rattle.machine.specs.Call.{given}
 use Rattle.sheet.proofs.RunLaws.{AsLong, Running, running-none, running-more, running-stops, running-last}
 use Rattle.sheet.proofs.run_words.Statement.{statement}
 use Rattle.sheet.proofs.run_words.Tie as tie
@@ -10,7 +10,8 @@ abbrev Inv-loop : tie.InvT-loop
 Inv-loop out₀ sheet first count allow registers₀ scalars₀ memory₀ rights ran₀ k₀ out registers scalars memory ran k =
     (k ≤ count)
     × (AsLong out₀ registers₀ scalars₀ memory₀ out registers scalars memory
-    × Running sheet first count allow (given registers₀ scalars₀ memory₀ rights reset) out₀ k out ran (given registers scalars memory rights (ran .control)))
+    × Running sheet first count allow (given registers₀ scalars₀ memory₀ rights reset) out₀ k out ran
+    (given registers scalars memory rights (ran .control)))
 
 abbrev μ-loop : tie.MeasureT-loop
 μ-loop out₀ sheet first count allow registers₀ scalars₀ memory₀ rights ran₀ k₀ out registers scalars memory ran k = count - k
@@ -25,7 +26,11 @@ run-words-spec = tie.close (tie.spec
     (λ c. search needs)
     (λ c. search needs)
     (λ c. search needs)
-    (λ c. (running-stops _ _ _ _ _ _ _ _ _ _ _ _ _ _ _ (c .before .before .before .loop .inv .1 .1) (c .before .number .ensures) (c .if1 .taken), search needs))
+    (λ c. (
+      running-stops _ _ _ _ _ _ _ _ _ _ _ _ _ _ _
+          (c .before .before .before .loop .inv .1 .1) (c .before .number .ensures) (c .if1 .taken),
+      search needs,
+    ))
     (λ c. search needs)
     (λ c. search needs)
     (λ c κs. search needs)

@@ -1,7 +1,8 @@
 use borrow.Author.Needs.{needs}
-use borrow.Author.Tests.{lt-ltb, le-ltb}
+use borrow.Author.Tests.{le-ltb}
 use Rattle.laws.proofs.Chain.{chain}
 use Rattle.sheet_read.specs.Sheet.{badEnd}
+use Rattle.sheet_read.proofs.SheetLaws.{more-after}
 use Rattle.sheet_read.proofs.bad_end.Statement.{statement}
 use Rattle.sheet_read.proofs.bad_end.Tie as tie
 
@@ -20,5 +21,5 @@ bad-end-spec =
     (λ c. search needs)
     (λ c. search needs)
     (λ c. search needs)
-    (λ c. search (chain, lt-ltb))
+    (λ c. search more-after)
     (λ c. search (chain, le-ltb)))

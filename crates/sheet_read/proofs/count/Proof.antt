@@ -1,14 +1,15 @@
 use Prim.Native.Nat.{_-_, _≤_}
 use borrow.Author.Needs.{needs}
+use Rattle.sheet_read.specs.Sheet.{mostWords}
 use Rattle.sheet_read.proofs.SheetLaws.{Counted, counted-none, counted-more, counted-stop, counted-full}
 use Rattle.sheet_read.proofs.count.Statement.{statement}
 use Rattle.sheet_read.proofs.count.Tie as tie
 
 abbrev Inv-loop : tie.InvT-loop
-Inv-loop s at k₀ t4 k = (k ≤ 64) × Counted s at k
+Inv-loop s at k₀ t4 k = (k ≤ mostWords) × Counted s at k
 
 abbrev μ-loop : tie.MeasureT-loop
-μ-loop s at k₀ t4 k = 64 - k
+μ-loop s at k₀ t4 k = mostWords - k
 
 pub count-spec : {M : Type 1} → statement M
 count-spec =

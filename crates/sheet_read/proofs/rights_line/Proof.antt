@@ -5,4 +5,11 @@ use Rattle.sheet_read.proofs.rights_line.Tie as tie
 
 pub rights-line-spec : {M : Type 1} → statement M
 rights-line-spec =
-    tie.close (tie.spec (λ c. search needs) (λ c κs. search needs) (λ c κs. search needs) (λ c κs. search needs) (λ c. search line-is))
+    tie.close
+    (tie.spec
+    (λ c. search needs)
+    (λ c κs. search needs)
+    (λ c κs. search needs)
+    (λ c. search needs)
+    (λ c κs. search needs)
+    (λ c. search line-is))

@@ -2,7 +2,7 @@ use Prim.Native.Nat.{_≤_}
 use borrow.Author.Needs.{needs}
 use Rattle.laws.proofs.Chain.{chain}
 use Rattle.sheet_read.specs.Sheet.{upTo128}
-use Rattle.sheet_read.proofs.LineLaws.{decimal-from}
+use Rattle.sheet_read.proofs.LineLaws.{decimal-from, no-zero}
 use Rattle.sheet_read.proofs.up_to_128.Statement.{statement}
 use Rattle.sheet_read.proofs.up_to_128.Tie as tie
 
@@ -16,7 +16,7 @@ up-to-128-spec =
     (tie.spec
     (λ c κs. search needs)
     (λ c. search chain)
-    (λ c. search chain)
+    (λ c. search no-zero)
     (λ c. search decimal-from)
     (λ c. search needs)
     (λ c. search chain)

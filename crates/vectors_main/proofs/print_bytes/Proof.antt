@@ -7,13 +7,6 @@ use borrow.Author.Needs.{needs}
 use Rattle.vectors_main.proofs.print_bytes.Statement.{statement}
 use Rattle.vectors_main.proofs.print_bytes.Tie as tie
 
-abbrev Inv-loop : tie.InvT-loop
-Inv-loop label bytes₀ before k₀ k-end bytes k =
-    (length bytes ≡ length bytes₀) × ((k ≤ length bytes₀) × ((k-end ≡ length bytes₀) × (length bytes₀ ≤ length before)))
-
-abbrev μ-loop : tie.MeasureT-loop
-μ-loop label bytes₀ before k₀ k-end bytes k = k-end - k
-
 -- the bytes after a store
 stored : (xs ys zs : List ℕ) (i v : ℕ) → xs ≡ set ys i v → length ys ≡ length zs → length xs ≡ length zs
 stored xs ys zs i v e h = ap length e ∙ (length-set ys i v ∙ h)
@@ -22,8 +15,8 @@ pub print-bytes-spec : {M : Type 1} → statement M
 print-bytes-spec =
     tie.close
     (tie.spec
-    Inv-loop
-    μ-loop
+    (λ label bytes₀ before k₀ k-end bytes k. (length bytes ≡ length bytes₀) × ((k-end ≡ length bytes₀) × (length bytes₀ ≤ length before)))
+    (λ label bytes₀ before k₀ k-end bytes k. k-end - k)
     (λ c. search needs)
     (λ c. search needs)
     (λ c. search needs)

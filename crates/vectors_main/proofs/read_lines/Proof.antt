@@ -7,7 +7,8 @@ use Rattle.vectors_main.proofs.read_lines.Tie as tie
 
 -- every slice keeps its length
 abbrev Inv-loop : tie.InvT-loop
-Inv-loop head₀ registers₀ scalars₀ memory₀ rights₀ registers-before₀ scalars-before₀ memory-before counter₀ head registers scalars memory rights registers-before scalars-before counter =
+Inv-loop head₀ registers₀ scalars₀ memory₀ rights₀ registers-before₀ scalars-before₀ memory-before counter₀
+    head registers scalars memory rights registers-before scalars-before counter =
     (counter ≤ 1000000)
     × (length head ≡ length head₀)
     × (length registers ≡ length registers₀)
@@ -18,7 +19,8 @@ Inv-loop head₀ registers₀ scalars₀ memory₀ rights₀ registers-before₀
     × (length scalars-before ≡ length scalars-before₀)
 
 abbrev μ-loop : tie.MeasureT-loop
-μ-loop head₀ registers₀ scalars₀ memory₀ rights₀ registers-before₀ scalars-before₀ memory-before counter₀ head registers scalars memory rights registers-before scalars-before counter =
+μ-loop head₀ registers₀ scalars₀ memory₀ rights₀ registers-before₀ scalars-before₀ memory-before counter₀
+    head registers scalars memory rights registers-before scalars-before counter =
     1000000 - counter
 
 pub read-lines-spec : {M : Type 1} → statement M

@@ -5,18 +5,12 @@ use borrow.Author.Needs.{needs}
 use Rattle.vectors_main.proofs.set_rights.Statement.{statement}
 use Rattle.vectors_main.proofs.set_rights.Tie as tie
 
-abbrev Inv-loop : tie.InvT-loop
-Inv-loop rights₀ line first last right k₀ k-end rights k = length rights ≡ length rights₀
-
-abbrev μ-loop : tie.MeasureT-loop
-μ-loop rights₀ line first last right k₀ k-end rights k = k-end - k
-
 pub set-rights-spec : {M : Type 1} → statement M
 set-rights-spec =
     tie.close
     (tie.spec
-    Inv-loop
-    μ-loop
+    (λ rights₀ line first last right k₀ k-end rights k. length rights ≡ length rights₀)
+    (λ rights₀ line first last right k₀ k-end rights k. k-end - k)
     (λ c κs. search needs)
     (λ c κs. search needs)
     (λ c κs. search needs)

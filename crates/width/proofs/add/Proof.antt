@@ -8,7 +8,8 @@ use Rattle.width.proofs.add.Tie as tie
 returns : tie.Need-returns
 returns c =
     let a = c .before .before .args in
-    c .low .ensures ∙ ap (λ (x : ℕ). x % 2 ^ a .sew) (c .before .wrapping-add-u64 .ensures) ∙ low-low (a .a + a .b) (c .before .before .pre .most)
+    c .low .ensures ∙ ap (λ (x : ℕ). x % 2 ^ a .sew) (c .before .wrapping-add-u64 .ensures)
+    ∙ low-low (a .a + a .b) (c .before .before .pre .most)
 
 pub add-spec : {M : Type 1} → statement M
 add-spec =

@@ -25,7 +25,8 @@ cast-result : tie.Need-cast-result
 cast-result c = let b = below c in rw (b .back) (tt, record { fits = omega (arith, b .bound) })
 
 sub-result-2 : tie.Need-sub-result-2
-sub-result-2 c = and-le-r (natAbs (toZ w64 (ofZ w64 (negsuc 0 -ℤ toZ w64 (ofZ w64 (c .before .before .args .z)))))) (c .before .ones .result)
+sub-result-2 c =
+    and-le-r (natAbs (toZ w64 (ofZ w64 (negsuc 0 -ℤ toZ w64 (ofZ w64 (c .before .before .args .z)))))) (c .before .ones .result)
 
 cast-result-2 : tie.Need-cast-result-2
 cast-result-2 c = let b = at-least c in rw (b .back) (tt, record { fits = omega (arith, b .bound) })
@@ -36,7 +37,8 @@ returns c =
     let b = below c in
     let w : ℕ = c .before .before .args .sew in
     let m : ℕ = c .before .ones .result in
-    ap (λ (z : ℤ). m - bitAnd (natAbs z) m) (b .back) ∙ omega (arith, and-ones (b .n) w m (c .before .ones .ensures)) ∙ sym (ap (wrap w) (b .is))
+    ap (λ (z : ℤ). m - bitAnd (natAbs z) m) (b .back) ∙ omega (arith, and-ones (b .n) w m (c .before .ones .ensures))
+    ∙ sym (ap (wrap w) (b .is))
 
 returns-2 : tie.Need-returns-2
 unfolding wrap

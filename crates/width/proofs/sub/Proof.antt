@@ -7,7 +7,9 @@ use Rattle.width.proofs.sub.Tie as tie
 returns : tie.Need-returns
 returns c =
     let a = c .before .before .args in
-    c .low .ensures ∙ sub-low (a .sew) (a .a) (a .b) (c .before .wrapping-sub-u64 .result) (c .before .before .pre .most) (c .before .wrapping-sub-u64 .ensures)
+    c .low .ensures
+    ∙ sub-low (a .sew) (a .a) (a .b) (c .before .wrapping-sub-u64 .result) (c .before .before .pre .most)
+    (c .before .wrapping-sub-u64 .ensures)
 
 pub sub-spec : {M : Type 1} → statement M
 sub-spec =

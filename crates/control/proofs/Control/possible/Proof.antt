@@ -9,7 +9,8 @@ use Rattle.control.specs.Control.{typedWellOf, possibleOf}
 use Rattle.control.proofs.Control.possible.Statement.{statement}
 use Rattle.control.proofs.Control.possible.Tie as tie
 
-is-possible : (b : Board) (c : Control) (t : Bool) → t ≡ typedWellOf b c → (t && ltb (c .vstart) (8 * b .vlenb) && leb (c .vxrm) 3 && leb (c .vxsat) 1) ≡ possibleOf b c
+is-possible : (b : Board) (c : Control) (t : Bool) → t ≡ typedWellOf b c
+    → (t && ltb (c .vstart) (8 * b .vlenb) && leb (c .vxrm) 3 && leb (c .vxsat) 1) ≡ possibleOf b c
 unfolding possibleOf
 is-possible b c t e = simp (e, and-assoc)
 

@@ -16,5 +16,16 @@ set-spec =
     (λ c. search needs)
     (λ c κs. search needs)
     (λ c κs. search needs)
-    (λ c. rw (c .before .before .before .before .avl .given .1, c .typed-if .ensures, c .before .smaller .ensures, c .before .before .vlmax .ensures, c .before .before .before .before .before .before .supported .ensures))
-    (λ c. rw (c .before .before .enum-told .given .1, c .typed-if2 .ensures, c .before .keeps .ensures, c .before .before .before .before .supported .ensures)))
+    (λ c. rw (
+      c .before .before .before .before .avl .given .1,
+      c .set-if .ensures,
+      c .before .smaller .ensures,
+      c .before .before .vlmax .ensures,
+      c .before .before .before .before .before .before .supported .ensures,
+    ))
+    (λ c. rw (
+      c .before .before .enum-told .given .1,
+      c .set-if2 .ensures,
+      c .before .keeps .ensures,
+      c .before .before .before .before .supported .ensures,
+    )))

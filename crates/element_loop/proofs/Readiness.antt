@@ -1,0 +1,238 @@
+-- An element below the end of a legal instruction lies inside the register file, and its operands are such as its operation takes.
+use Prim.Native.Nat.{ℕ, _+_, _*_, _/_, _^_, _≤_, _<_}
+use mathlib.Core.Path.{_≡_, refl, sym, ap, subst}
+use mathlib.Core.Logic.{⊎-elim}
+use mathlib.Core.Bool.{Bool, true, false, not, _||_, cond}
+use mathlib.Core.List.{List}
+use native.Mathlib.Omega.{arith}
+use native.Mathlib.Nat.{mul-le-mul-right, div-mul-le-self}
+use lib.Dec.{T, eqb, lit<}
+use borrow.Author.Tests.{eqb-true, leb-true}
+use Rattle.laws.proofs.Apart.{both-left, or-cases}
+use Rattle.laws.proofs.Chain.{either}
+use Rattle.operation.specs.declared.Size.{Size}
+use Rattle.operation.specs.declared.Size.the-variants.{Absent, Bit, Eighth, Quarter, Half, Single, Double}
+use Rattle.operation.specs.Shape.{eewOf, shapeOf, largestSew}
+use Rattle.control.specs.declared.Board.{Board}
+use Rattle.control.specs.declared.Control.{Control}
+use Rattle.control.specs.Board.{Valid}
+use Rattle.control.specs.Vtype.{sewOf, vlmaxOf}
+use Rattle.control.proofs.Laws.{Possible, sew-ge, vlmax-le}
+use Rattle.decode.specs.declared.Instruction.{Instruction}
+use Rattle.decode.specs.declared.Instruction.the-variants as I
+use Rattle.decode.specs.declared.Arithmetic.{Arithmetic}
+use Rattle.decode.specs.declared.Access.{Access}
+use Rattle.decode.specs.declared.Mode.{Mode}
+use Rattle.decode.specs.declared.Mode.the-variants as M
+use Rattle.decode.specs.declared.Source.{Source}
+use Rattle.decode.specs.declared.Source.the-variants.{Vector, Scalar, Immediate}
+use Rattle.decode.specs.Fields.{ArithmeticFits, AccessFits, ModeFits, SizeFits, Fits}
+use Rattle.layout.specs.Layout.{elementWidth, byteSize, Inside}
+use Rattle.layout.proofs.WidthLaws.{bytes-size}
+use Rattle.layout.proofs.BytesLaws.{Bytes}
+use Rattle.layout.proofs.ElementLaws.{element-lt}
+use Rattle.group.specs.declared.Group.{Group}
+use Rattle.group.specs.Group.{maskGroup, registersOf, placedOf, mayOverlapOf}
+use Rattle.plan.specs.declared.Read.{Read}
+use Rattle.plan.specs.declared.Read.the-variants as R
+use Rattle.plan.specs.declared.Action.the-variants as A
+use Rattle.plan.specs.declared.Transfer.{Transfer}
+use Rattle.plan.specs.declared.Elementwise.{Elementwise}
+use Rattle.plan.specs.declared.Plan.{Plan}
+use Rattle.plan.specs.declared.Plan.the-variants as P
+use Rattle.plan.specs.Plan.{groupAt, readAt, secondOf, shapedOf, computingOf, movingOf, byMode, planOf}
+use Rattle.plan.specs.Legal.{readFits, writesRegisters, operandsFit, isThere}
+use Rattle.plan.specs.Range.{ReadInRange, InRange, PlanFits}
+use Rattle.plan.proofs.AccessLaws.{one-of, eew-low}
+use Rattle.plan.proofs.RangeLaws.{plan-range, vs1-constant}
+use Rattle.machine.specs.Effect.{valueOf}
+use Rattle.machine.proofs.Geometry.{power-of, product-power, Power, placed-extent, placed-ends}
+use Rattle.machine.proofs.PlanFacts.{Operand, constant, bit, element, OfV0, unused, used, Typed, typed-extent, legal-at, computing-typed}
+use Rattle.machine.proofs.PlanFacts.{mode-end, unit-typed, strided-typed, indexed-typed, eew-width}
+use Rattle.execute.specs.Step.{Ready, ReadInside, ActionFits}
+
+-- ---- where elements lie
+
+-- in a group that ends at or below v31, and whose registers hold all elements below `end`
+inside : (vlenb end : ℕ) (g : Group) (k : ℕ) → T (elementWidth (g .eew)) → end * g .eew ≤ registersOf g * (8 * vlenb)
+    → g .reg + registersOf g ≤ 32
+    → k < end → Inside (32 * vlenb) vlenb (g .reg) (g .eew) k
+inside vlenb end g k t m u l =
+    let here : (k + 1) * g .eew ≤ end * g .eew = mul-le-mul-right (g .eew) (omega arith) in
+    record { width = t; within = omega (arith, here, m, mul-le-mul-right (8 * vlenb) u) }
+
+bit-inside : (vlenb reg k : ℕ) → reg < 32 → k < 8 * vlenb → Inside (32 * vlenb) vlenb reg 1 k
+bit-inside vlenb reg k u l = inside vlenb (8 * vlenb) (maskGroup reg) k tt (omega arith) (omega arith) l
+
+v0-inside : (vlenb : ℕ) (r : Read) (k : ℕ) → OfV0 r → k < 8 * vlenb → ReadInside (32 * vlenb) vlenb r k
+unfolding ReadInside
+v0-inside vlenb _ k unused l = tt
+v0-inside vlenb _ k used l = bit-inside vlenb 0 k (lit< tt) l
+
+read-inside : (b : Board) (v : ℕ) (e : Elementwise) (writes : Bool) (r : Read) (k : ℕ) → Valid b → Typed b v e → k < vlmaxOf b v
+    → Operand v r → readFits (b .elen) writes (e .dest) r ≡ true
+    → ReadInRange r → ReadInside (32 * b .vlenb) (b .vlenb) r k
+unfolding ReadInside readFits
+read-inside b v e writes _ k w y l (constant n) t u = tt
+read-inside b v e writes _ k w y l (bit reg) t u = bit-inside (b .vlenb) reg k u (omega (arith, vlmax-le b v))
+read-inside b v e writes _ k w y l (element eew reg p) t u =
+    let g : Group = groupAt v eew reg in
+    let x = placed-extent b v w (y .supported) eew p reg (both-left (placedOf (b .elen) g) (not writes || mayOverlapOf (e .dest) g) t) in
+    inside (b .vlenb) (vlmaxOf b v) g k (x .width) (x .within) (x .ends u) l
+
+typed-ready : (b : Board) (v : ℕ) (e : Elementwise) (k : ℕ) → Valid b → Typed b v e → operandsFit (b .elen) e ≡ true → InRange e
+    → k < e .end → Ready (32 * b .vlenb) (b .vlenb) e k
+typed-ready b v e k w y h u l =
+    let f = legal-at (b .elen) e h in
+    let x = typed-extent b v e w y (f .dest) in
+    let most : k < vlmaxOf b v = omega (arith, y .end) in
+    let bits : k < 8 * b .vlenb = omega (arith, vlmax-le b v) in
+    record {
+      dest = inside (b .vlenb) (vlmaxOf b v) (e .dest) k (x .width) (x .within) (x .ends (u .dest)) most;
+      vs2 = read-inside b v e (writesRegisters (e .action)) (e .vs2) k w y most (y .vs2) (f .vs2) (u .vs2);
+      vs1 = read-inside b v e (writesRegisters (e .action)) (e .vs1) k w y most (y .vs1) (f .vs1) (u .vs1);
+      vd = read-inside b v e (writesRegisters (e .action)) (e .vd) k w y most (y .vd) (f .vd) (u .vd);
+      v0 = v0-inside (b .vlenb) (e .v0) k (y .v0) bits;
+      mask = bit-inside (b .vlenb) 0 k (lit< tt) bits;
+    }
+
+-- ---- loads and stores
+
+-- of registers whatever the vtype
+if-inside : (size vlenb : ℕ) (t : Bool) (g : Group) (k : ℕ) → Inside size vlenb (g .reg) (g .eew) k
+    → ReadInside size vlenb (cond t (R.Element g) (R.Constant 0)) k
+unfolding ReadInside
+if-inside size vlenb t g k h = either (λ r. ReadInside size vlenb r k) t (R.Element g) (R.Constant 0) (λ e. h) (λ e. tt)
+
+alone-ready : (b : Board) (a : Access) (typed : Bool) (g : Group) (z : Transfer) (end k : ℕ)
+    → Inside (32 * b .vlenb) (b .vlenb) (g .reg) (g .eew) k → k < 8 * b .vlenb
+    → Ready (32 * b .vlenb) (b .vlenb) (movingOf a typed g (R.Constant 0) z end) k
+unfolding movingOf ReadInside
+alone-ready b a typed g z end k h l =
+    record { dest = h; vs2 = tt; vs1 = tt; vd = if-inside _ _ (a .store) g k h; v0 = tt; mask = bit-inside (b .vlenb) 0 k (lit< tt) l }
+
+module _ (b : Board) (x : List ℕ) (c : Control) (a : Access) (w : Valid b) (t : Possible b c) (f : AccessFits a) (k : ℕ) where
+  whole-inside : (n : ℕ) → ModeFits (M.Whole n) → operandsFit (b .elen) (byMode b x c a (M.Whole n)) ≡ true
+      → k < n * (8 * b .vlenb) / a .eew → Inside (32 * b .vlenb) (b .vlenb) (a .vd) (a .eew) k
+  unfolding byMode movingOf
+  whole-inside n m h l =
+      let g : Group = record { reg = a .vd; eew = a .eew; emul8 = 8 * n } in
+      let some : 1 ≤ n = one-of (λ i. 1 ≤ i) 1 2 4 8 (omega arith) (omega arith) (omega arith) (omega arith) n m in
+      let all : registersOf g ≡ n = omega arith in
+      let p : Power (8 * n) =
+      product-power 8 n (power-of 3) (one-of Power 1 2 4 8 (power-of 0) (power-of 1) (power-of 2) (power-of 3) n m) in
+      let placed : placedOf (b .elen) g ≡ true =
+      ⊎-elim (λ e. absurd (omega (arith, eqb-true (a .eew) 1 e, eew-low a f))) (λ q. q)
+      (or-cases (eqb (a .eew) 1) _ (legal-at (b .elen) (byMode b x c a (M.Whole n)) h .dest)) in
+      inside (b .vlenb) (n * (8 * b .vlenb) / a .eew) g k (eew-width a f)
+      (omega (arith, div-mul-le-self (n * (8 * b .vlenb)) (a .eew), ap (λ (i : ℕ). i * (8 * b .vlenb)) all))
+      (placed-ends (b .elen) g p placed (f .vd)) l
+
+  mode-ready : (m : Mode) → ModeFits m → InRange (byMode b x c a m) → operandsFit (b .elen) (byMode b x c a m) ≡ true
+      → k < byMode b x c a m .end → k < 8 * b .vlenb → Ready (32 * b .vlenb) (b .vlenb) (byMode b x c a m) k
+  unfolding byMode movingOf
+  mode-ready M.UnitStride n u h l o = typed-ready b (c .vtype) _ k w (unit-typed b x c a w t f (omega arith)) h u l
+  mode-ready (M.Strided r) n u h l o = typed-ready b (c .vtype) _ k w (strided-typed b x c a w t f r (omega arith)) h u l
+  mode-ready (M.Indexed r) n u h l o = typed-ready b (c .vtype) _ k w (indexed-typed b x c a w t f r (omega arith)) h u l
+  mode-ready M.MaskBytes n u h l o =
+      let g : Group = record { reg = a .vd; eew = 8; emul8 = 8 } in
+      alone-ready b a _ g _ _ k (inside (b .vlenb) (b .vlenb) g k tt (omega arith) (omega (arith, f .vd)) (omega (arith, t .vl))) o
+  mode-ready (M.Whole r) n u h l o = alone-ready b a _ _ _ _ k (whole-inside r n h l) o
+
+-- ---- what the operands of an operation hold
+
+read-lt : (vlenb : ℕ) (file : List ℕ) (v : ℕ) (z : Size) (reg k : ℕ) → Bytes file
+    → valueOf vlenb file (readAt v z reg) k < 2 ^ eewOf z (sewOf v)
+unfolding valueOf readAt
+read-lt vlenb file v Absent reg k y = lit< tt
+read-lt vlenb file v Bit reg k y = element-lt vlenb file reg 1 k y
+read-lt vlenb file v Eighth reg k y = element-lt vlenb file reg (sewOf v / 8) k y
+read-lt vlenb file v Quarter reg k y = element-lt vlenb file reg (sewOf v / 4) k y
+read-lt vlenb file v Half reg k y = element-lt vlenb file reg (sewOf v / 2) k y
+read-lt vlenb file v Single reg k y = element-lt vlenb file reg (sewOf v) k y
+read-lt vlenb file v Double reg k y = element-lt vlenb file reg (2 * sewOf v) k y
+
+-- a number in place of a vector
+number-lt : (v n : ℕ) (z : Size) → z ≡ Single → n < 2 ^ sewOf v → n < 2 ^ eewOf z (sewOf v)
+number-lt v n z e = subst (λ (y : Size). n < 2 ^ sewOf v → n < 2 ^ eewOf y (sewOf v)) (sym e) (λ h. h)
+
+second-lt : (vlenb : ℕ) (file x : List ℕ) (v : ℕ) (z : Size) (unsigned : Bool) (s : Source) (k : ℕ) → Bytes file → SizeFits z s
+    → ((n : ℕ) → secondOf x v z unsigned s ≡ R.Constant n → n < 2 ^ sewOf v)
+    → valueOf vlenb file (secondOf x v z unsigned s) k < 2 ^ eewOf z (sewOf v)
+unfolding valueOf secondOf
+second-lt vlenb file x v z unsigned (Vector r) k y e h = read-lt vlenb file v z r k y
+second-lt vlenb file x v z unsigned (Scalar r) k y e h = number-lt v _ z e (h _ refl)
+second-lt vlenb file x v z unsigned (Immediate n) k y e h = number-lt v _ z e (h _ refl)
+
+v0-lt : (vlenb : ℕ) (file : List ℕ) (r : Read) (k : ℕ) → Bytes file → OfV0 r → valueOf vlenb file r k < 2
+unfolding valueOf
+v0-lt vlenb file _ k y unused = lit< tt
+v0-lt vlenb file _ k y used = element-lt vlenb file 0 1 k y
+
+computing-fits : (b : Board) (x : List ℕ) (c : Control) (a : Arithmetic) → Typed b (c .vtype) (computingOf x c a) → ArithmeticFits a
+    → isThere (computingOf x c a .action) ≡ true → (file : List ℕ) → Bytes file → (k : ℕ)
+    → ActionFits (b .vlenb) file (computingOf x c a) k (computingOf x c a .action)
+unfolding shapedOf ActionFits
+computing-fits b x c a y f t file u k =
+    let s = shapeOf (a .op) in
+    record {
+      least = sew-ge (c .vtype);
+      most = leb-true (sewOf (c .vtype)) (largestSew (a .op)) t;
+      vs2-fits = read-lt (b .vlenb) file (c .vtype) (s .vs2) (a .vs2) k u;
+      vs1-fits = second-lt (b .vlenb) file x (c .vtype) (s .vs1) (s .unsigned) (a .source) k u (f .size) (λ n e. vs1-constant x c a n f e);
+      v0-fits = v0-lt (b .vlenb) file (computingOf x c a .v0) k u (y .v0);
+    }
+
+-- ---- the size of an element that is moved
+
+moved-fits : (vlenb : ℕ) (file : List ℕ) (e : Elementwise) (k : ℕ) (p : Bool) (t : Transfer) → T (byteSize (t .bytes))
+    → ActionFits vlenb file e k (cond p (A.Store t) (A.Load t))
+unfolding ActionFits
+moved-fits vlenb file e k true t h = h
+moved-fits vlenb file e k false t h = h
+
+mode-fits : (b : Board) (x : List ℕ) (c : Control) (a : Access) (m : Mode) (file : List ℕ) (k : ℕ) → AccessFits a
+    → T (elementWidth (byMode b x c a m .dest .eew)) → ActionFits (b .vlenb) file (byMode b x c a m) k (byMode b x c a m .action)
+unfolding byMode movingOf
+mode-fits b x c a M.UnitStride file k f t = moved-fits _ file _ k (a .store) _ (bytes-size (a .eew) t (omega (arith, eew-low a f)))
+mode-fits b x c a (M.Strided r) file k f t = moved-fits _ file _ k (a .store) _ (bytes-size (a .eew) t (omega (arith, eew-low a f)))
+mode-fits b x c a (M.Indexed r) file k f t =
+    moved-fits _ file _ k (a .store) _ (bytes-size (sewOf (c .vtype)) t (omega (arith, sew-ge (c .vtype))))
+mode-fits b x c a M.MaskBytes file k f t = moved-fits _ file _ k (a .store) _ tt
+mode-fits b x c a (M.Whole n) file k f t = moved-fits _ file _ k (a .store) _ (bytes-size (a .eew) t (omega (arith, eew-low a f)))
+
+-- ---- the plan of a decoded word
+
+-- an element below the end of a plan whose operands fit
+pub record Prepared (b : Board) (e : Elementwise) (k : ℕ) : Type 0 where
+  pub ready : Ready (32 * b .vlenb) (b .vlenb) e k
+  pub action : (file : List ℕ) → Bytes file → ActionFits (b .vlenb) file e k (e .action)
+
+abbrev PlanPrepared : Board → ℕ → Plan → Type 0
+PlanPrepared b k P.Illegal = Unit {0}
+PlanPrepared b k (P.OneTurn t) = Unit {0}
+PlanPrepared b k (P.Elements e) = isThere (e .action) ≡ true → operandsFit (b .elen) e ≡ true → k < e .end → Prepared b e k
+
+module _ (b : Board) (x : List ℕ) (c : Control) (w : Valid b) (t : Possible b c) (k : ℕ) where
+  computing-prepared : (a : Arithmetic) → ArithmeticFits a → InRange (computingOf x c a) → PlanPrepared b k (P.Elements (computingOf x c a))
+  computing-prepared a f u q h l =
+      let y = computing-typed b x c a t (omega arith) in
+      record { ready = typed-ready b (c .vtype) (computingOf x c a) k w y h u l; action = λ file z. computing-fits b x c a y f q file z k }
+
+  moving-prepared : (a : Access) → AccessFits a → InRange (byMode b x c a (a .mode))
+      → PlanPrepared b k (P.Elements (byMode b x c a (a .mode)))
+  moving-prepared a f u q h l =
+      let r = mode-ready b x c a w t f k (a .mode) (f .mode) u h l (omega (arith, mode-end b x c a w t f (a .mode) (f .mode))) in
+      record { ready = r; action = λ file z. mode-fits b x c a (a .mode) file k f (r .dest .width) }
+
+  every-plan : (i : Instruction) → Fits i → PlanFits (planOf b x c i) → PlanPrepared b k (planOf b x c i)
+  unfolding planOf
+  every-plan I.Illegal f u = tt
+  every-plan (I.Setting s) f u = tt
+  every-plan (I.Mask m) f u = tt
+  every-plan (I.Arithmetic a) f u = computing-prepared a f u
+  every-plan (I.Memory a) f u = moving-prepared a f u
+
+  pub prepared : (i : Instruction) (e : Elementwise) → Fits i → planOf b x c i ≡ P.Elements e → isThere (e .action) ≡ true
+      → operandsFit (b .elen) e ≡ true → k < e .end → Prepared b e k
+  prepared i e f q = subst (PlanPrepared b k) q (every-plan i f (plan-range b x c i f))

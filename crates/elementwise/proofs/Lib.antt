@@ -1,3 +1,0 @@
-pub mod OperandLaws
-pub mod AccessLaws
-pub mod ElementwiseLaws

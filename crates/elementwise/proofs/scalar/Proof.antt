@@ -1,7 +1,0 @@
-use borrow.Author.Needs.{needs}
-use Rattle.laws.proofs.Chain.{chain}
-use Rattle.elementwise.proofs.scalar.Statement.{statement}
-use Rattle.elementwise.proofs.scalar.Tie as tie
-
-pub scalar-spec : {M : Type 1} → statement M
-scalar-spec = tie.close (tie.spec (λ c. search chain) (λ c. search needs) (λ c. search needs) (λ c. search chain))

@@ -1,0 +1,90 @@
+-- Legality, from what the code has worked out: one law for each way, over plain variables.
+use Prim.Native.Nat.{ℕ}
+use mathlib.Core.Path.{_≡_, refl, ap, _∙_, subst}
+use mathlib.Core.Bool.{Bool, true, false, not, _&&_, _||_}
+use mathlib.Core.List.{List}
+use lib.Dec.{leb, eqb}
+use Rattle.laws.proofs.Chain.{case}
+use Rattle.operation.specs.Shape.{largestSew}
+use Rattle.control.specs.declared.Board.{Board}
+use Rattle.control.specs.declared.Control.{Control}
+use Rattle.decode.specs.declared.Arithmetic.{Arithmetic}
+use Rattle.decode.specs.declared.Access.{Access}
+use Rattle.decode.specs.declared.Setting.{Setting}
+use Rattle.decode.specs.declared.MaskInstruction.{MaskInstruction}
+use Rattle.decode.specs.declared.Instruction.{Instruction}
+use Rattle.decode.specs.declared.Instruction.the-variants as I
+use Rattle.decode.specs.Fields.{ArithmeticFits, AccessFits, Fits}
+use Rattle.plan.specs.declared.Action.{Action}
+use Rattle.plan.specs.declared.Action.the-variants as A
+use Rattle.plan.specs.declared.Compute.{Compute}
+use Rattle.plan.specs.declared.Elementwise.{Elementwise}
+use Rattle.plan.specs.declared.OneTurn.{OneTurn}
+use Rattle.plan.specs.declared.OneTurn.the-variants as O
+use Rattle.plan.specs.declared.Plan.{Plan}
+use Rattle.plan.specs.declared.Plan.the-variants as P
+use Rattle.plan.specs.Plan.{computingOf, transferringOf, planOf}
+use Rattle.plan.specs.Legal.{startable, operandsFit, isThere, elementsLegal, writesMask, maskApart, oneTurnLegal, legalOf, checkedOf}
+use Rattle.plan.specs.Range.{InRange, PlanFits}
+
+-- ---- the plan of a decoded word
+
+pub arithmetic-fits : (i : Instruction) (a : Arithmetic) → i ≡ I.Arithmetic a → Fits i → ArithmeticFits a
+arithmetic-fits i a e f = subst Fits e f
+
+pub access-fits : (i : Instruction) (a : Access) → i ≡ I.Memory a → Fits i → AccessFits a
+access-fits i a e f = subst Fits e f
+
+module _ (b : Board) (x : List ℕ) (c : Control) (i : Instruction) where
+  -- in the arm of the variant v
+  pub planned : (v : Instruction) (p : Plan) → i ≡ v → p ≡ planOf b x c v → p ≡ planOf b x c i
+  planned v p e h = case (planOf b x c) i v p e h
+
+  pub arithmetic-planned : (a : Arithmetic) (e : Elementwise) → i ≡ I.Arithmetic a → e ≡ computingOf x c a → P.Elements e ≡ planOf b x c i
+  unfolding planOf
+  arithmetic-planned a e q h = planned (I.Arithmetic a) (P.Elements e) q (ap P.Elements h)
+
+  pub memory-planned : (a : Access) (e : Elementwise) → i ≡ I.Memory a → e ≡ transferringOf b x c a → P.Elements e ≡ planOf b x c i
+  unfolding planOf
+  memory-planned a e q h = planned (I.Memory a) (P.Elements e) q (ap P.Elements h)
+
+-- ---- instructions of elements
+
+pub there-is : (a : Action) (k : Compute) (n : ℕ) → a ≡ A.Compute k → n ≡ largestSew (k .op) → leb (k .sew) n ≡ isThere a
+there-is a k n e h = case isThere a (A.Compute k) (leb (k .sew) n) e (rw h)
+
+module _ (b : Board) (c : Control) where
+  pub elements-legal-is : (e : Elementwise) (start there fit : Bool) → start ≡ startable b c → there ≡ isThere (e .action)
+      → fit ≡ operandsFit (b .elen) e → ((not (e .typed) || start) && (there && fit)) ≡ elementsLegal b c e
+  unfolding elementsLegal
+  elements-legal-is e start there fit p q r = rw (p, q, r)
+
+  -- ---- instructions that take one turn
+
+  pub setting-legal : (t : OneTurn) (s : Setting) → t ≡ O.Setting s → true ≡ oneTurnLegal b c t
+  unfolding oneTurnLegal
+  setting-legal t s e = case (oneTurnLegal b c) t (O.Setting s) true e refl
+
+  pub mask-legal : (t : OneTurn) (m : MaskInstruction) (start apart : Bool) → t ≡ O.Mask m → start ≡ startable b c → apart ≡ maskApart m
+      → (start && (eqb (c .vstart) 0 && apart)) ≡ oneTurnLegal b c t
+  unfolding oneTurnLegal
+  mask-legal t m start apart e p q = case (oneTurnLegal b c) t (O.Mask m) (start && (eqb (c .vstart) 0 && apart)) e (rw (p, q))
+
+  -- ---- every plan
+
+  -- in the arm of the variant v
+  pub legal-by : (p v : Plan) (r : Bool) → p ≡ v → r ≡ legalOf b c v → r ≡ legalOf b c p
+  legal-by p v r e h = case (legalOf b c) p v r e h
+
+  pub checked-legal : (p q : Plan) (t : Bool) → p ≡ q → t ≡ legalOf b c p → t ≡ true → p ≡ checkedOf b c q
+  checked-legal p q t e h k = e ∙ rw (← e, ← h, k)
+
+  pub checked-illegal : (p q : Plan) (t : Bool) → p ≡ q → t ≡ legalOf b c p → t ≡ false → P.Illegal ≡ checkedOf b c q
+  checked-illegal p q t e h k = rw (← e, ← h, k)
+
+pub apart-is : (m : MaskInstruction) (w : Bool) → w ≡ writesMask (m .op)
+    → (not w || (not (eqb (m .rd) (m .vs2)) && (not (m .masked) || not (eqb (m .rd) 0)))) ≡ maskApart m
+apart-is m w h = rw h
+
+pub elements-range : (p : Plan) (e : Elementwise) → p ≡ P.Elements e → PlanFits p → InRange e
+elements-range p e q f = subst PlanFits q f

@@ -1,0 +1,4 @@
+pub mod OperandLaws
+pub mod AccessLaws
+pub mod RangeLaws
+pub mod LegalLaws

@@ -1,0 +1,19 @@
+use borrow.Author.Needs.{needs}
+use Rattle.plan.specs.Legal.{legalOf}
+use Rattle.plan.proofs.LegalLaws.{elements-range, legal-by}
+use Rattle.plan.proofs.legal.Statement.{statement}
+use Rattle.plan.proofs.legal.Tie as tie
+
+pub legal-spec : {M : Type 1} → statement M
+unfolding legalOf
+legal-spec =
+    tie.close
+    (tie.spec
+    (λ c. search needs)
+    (λ c. search needs)
+    (λ c κs. search needs)
+    (λ c. search needs)
+    (λ c κs. search elements-range)
+    (λ c. search legal-by)
+    (λ c. search legal-by)
+    (λ c. search legal-by))

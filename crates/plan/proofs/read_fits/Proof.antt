@@ -1,0 +1,43 @@
+use Prim.Native.Nat.{ℕ, _<_}
+use mathlib.Core.Path.{_≡_, refl, subst}
+use mathlib.Core.Bool.{Bool, true, not, _&&_, _||_}
+use borrow.Author.Needs.{needs}
+use Rattle.laws.proofs.Chain.{case}
+use Rattle.group.specs.declared.Group.{Group}
+use Rattle.group.specs.Group.{maskGroup, placedOf, mayOverlapOf}
+use Rattle.plan.specs.declared.Read.{Read}
+use Rattle.plan.specs.declared.Read.the-variants as R
+use Rattle.plan.specs.Legal.{readFits}
+use Rattle.plan.specs.Range.{ReadInRange}
+use Rattle.plan.proofs.read_fits.Statement.{statement}
+use Rattle.plan.proofs.read_fits.Tie as tie
+
+element-range : (r : Read) (g : Group) → r ≡ R.Element g → ReadInRange r → g .reg < 32
+element-range r g e h = subst ReadInRange e h
+
+bit-range : (r : Read) (n : ℕ) (m : Group) → r ≡ R.Bit n → m ≡ maskGroup n → ReadInRange r → m .reg < 32
+bit-range r n m e p h = rw p (subst ReadInRange e h)
+
+constant-fits : (elen : ℕ) (w : Bool) (d : Group) (r : Read) (n : ℕ) → r ≡ R.Constant n → true ≡ readFits elen w d r
+unfolding readFits
+constant-fits elen w d r n e = case (readFits elen w d) r (R.Constant n) true e refl
+
+element-fits : (elen : ℕ) (w : Bool) (d : Group) (r : Read) (g : Group) (p q : Bool) → r ≡ R.Element g → p ≡ placedOf elen g
+    → q ≡ mayOverlapOf d g
+    → (p && (not w || q)) ≡ readFits elen w d r
+unfolding readFits
+element-fits elen w d r g p q e h k = case (readFits elen w d) r (R.Element g) (p && (not w || q)) e (rw (h, k))
+
+bit-fits : (elen : ℕ) (w : Bool) (d : Group) (r : Read) (n : ℕ) (m : Group) (q : Bool) → r ≡ R.Bit n → m ≡ maskGroup n
+    → q ≡ mayOverlapOf d m
+    → (not w || q) ≡ readFits elen w d r
+unfolding readFits
+bit-fits elen w d r n m q e h k = case (readFits elen w d) r (R.Bit n) (not w || q) e (rw (k, h))
+
+pub read-fits-spec : {M : Type 1} → statement M
+read-fits-spec =
+    tie.close
+    (tie.spec
+    (λ c. search needs) (λ c. search needs) (λ c κs. search needs) (λ c κs. search element-range) (λ c. search needs)
+    (λ c κs. search needs) (λ c κs. search bit-range)
+    (λ c. search constant-fits) (λ c. search element-fits) (λ c. search bit-fits))

@@ -1,0 +1,97 @@
+-- Whether a plan is legal (sections 6.2, 6.3 and 16; document 01, 'Words, groups and elements').
+use Prim.Native.Nat.{ℕ, _*_, _/_}
+use mathlib.Core.Bool.{Bool, true, false, not, _&&_, _||_, cond}
+use lib.Dec.{ltb, leb, eqb}
+use Rattle.operation.specs.Shape.{largestSew}
+use Rattle.control.specs.declared.Board.{Board}
+use Rattle.control.specs.declared.Control.{Control}
+use Rattle.control.specs.Vtype.{vill, sewOf}
+use Rattle.decode.specs.declared.MaskOp.{MaskOp}
+use Rattle.decode.specs.declared.MaskOp.the-variants.{Vcpop, Vfirst, Vmsbf, Vmsof, Vmsif}
+use Rattle.decode.specs.declared.MaskInstruction.{MaskInstruction}
+use Rattle.group.specs.declared.Group.{Group}
+use Rattle.group.specs.Group.{maskGroup, placedOf, mayOverlapOf, sparesV0}
+use Rattle.plan.specs.declared.Read.{Read}
+use Rattle.plan.specs.declared.Read.the-variants as R
+use Rattle.plan.specs.declared.Action.{Action}
+use Rattle.plan.specs.declared.Action.the-variants as A
+use Rattle.plan.specs.declared.Elementwise.{Elementwise}
+use Rattle.plan.specs.declared.OneTurn.{OneTurn}
+use Rattle.plan.specs.declared.OneTurn.the-variants as O
+use Rattle.plan.specs.declared.Plan.{Plan}
+use Rattle.plan.specs.declared.Plan.the-variants as P
+
+-- "With vill set only setting instructions and whole-register loads and stores are legal. All others are illegal if vstart is 1024/SEW
+-- or more": 1024 is 8 * VLEN
+abbrev pub startable : Board → Control → Bool
+startable b c = not (eqb (c .vtype) vill) && ltb (c .vstart) (64 * b .vlenb / sewOf (c .vtype))
+
+-- ---- instructions of elements
+
+-- an operand is well placed and, beside a destination that is written, overlaps it only as it may
+unfoldable pub readFits : ℕ → Bool → Group → Read → Bool
+readFits elen writes d (R.Constant n) = true
+readFits elen writes d (R.Element g) = placedOf elen g && (not writes || mayOverlapOf d g)
+readFits elen writes d (R.Bit reg) = not writes || mayOverlapOf d (maskGroup reg)
+
+abbrev pub writesRegisters : Action → Bool
+writesRegisters (A.Compute k) = true
+writesRegisters (A.Load t) = true
+writesRegisters (A.Store t) = false
+
+abbrev pub isBit : Read → Bool
+isBit (R.Constant n) = false
+isBit (R.Element g) = false
+isBit (R.Bit reg) = true
+
+-- destination and sources are well placed and overlap only as they may, and v0 is spared where it is the mask or an operand
+unfoldable pub operandsFit : ℕ → Elementwise → Bool
+operandsFit elen e =
+    (eqb (e .dest .eew) 1 || placedOf elen (e .dest))
+    && (readFits elen (writesRegisters (e .action)) (e .dest) (e .vs2)
+    && (readFits elen (writesRegisters (e .action)) (e .dest) (e .vs1)
+    && (readFits elen (writesRegisters (e .action)) (e .dest) (e .vd)
+    && (not (writesRegisters (e .action)) || sparesV0 (e .masked || isBit (e .v0)) (e .dest)))))
+
+-- an operation is there at this SEW (operation/specs/Shape, `largest`)
+abbrev pub isThere : Action → Bool
+isThere (A.Compute k) = leb (k .sew) (largestSew (k .op))
+isThere (A.Load t) = true
+isThere (A.Store t) = true
+
+unfoldable pub elementsLegal : Board → Control → Elementwise → Bool
+elementsLegal b c e = (not (e .typed) || startable b c) && (isThere (e .action) && operandsFit (b .elen) e)
+
+-- ---- instructions that take one turn
+
+-- vcpop and vfirst write a scalar register, the others a mask
+abbrev pub writesMask : MaskOp → Bool
+writesMask Vcpop = false
+writesMask Vfirst = false
+writesMask Vmsbf = true
+writesMask Vmsof = true
+writesMask Vmsif = true
+
+-- v0, where it is the mask, is not the destination
+abbrev pub keepsV0 : MaskInstruction → Bool
+keepsV0 m = not (m .masked) || not (eqb (m .rd) 0)
+
+-- "vmsbf, vmsif, vmsof: no overlap with the source, nor with v0 if masked"
+abbrev pub maskApart : MaskInstruction → Bool
+maskApart m = not (writesMask (m .op)) || (not (eqb (m .rd) (m .vs2)) && keepsV0 m)
+
+-- those on masks need vstart 0 (sections 16.2 to 16.6)
+unfoldable pub oneTurnLegal : Board → Control → OneTurn → Bool
+oneTurnLegal b c (O.Setting t) = true
+oneTurnLegal b c (O.Mask m) = startable b c && (eqb (c .vstart) 0 && maskApart m)
+
+-- ---- every plan
+
+unfoldable pub legalOf : Board → Control → Plan → Bool
+legalOf b c P.Illegal = false
+legalOf b c (P.OneTurn t) = oneTurnLegal b c t
+legalOf b c (P.Elements e) = elementsLegal b c e
+
+-- for the contract of an inner function, not to be believed: the plan where it is legal, and `Illegal` otherwise
+abbrev pub checkedOf : Board → Control → Plan → Plan
+checkedOf b c p = cond (legalOf b c p) p P.Illegal

@@ -1,0 +1,3 @@
+pub mod Plan
+pub mod Legal
+pub mod Range

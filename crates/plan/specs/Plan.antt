@@ -1,0 +1,155 @@
+-- What a decoded word means at a board, scalars and a control record, worked out once before the first element: its plan.
+use Prim.Native.Nat.{ℕ, _+_, _*_, _/_, _%_, _^_}
+use mathlib.Core.Bool.{Bool, true, false, cond}
+use mathlib.Core.List.{List}
+use lib.ListN.{getD}
+use lib.Dec.{eqb}
+use Rattle.width.specs.Width.{signed, wrap}
+use Rattle.fixed.specs.Round.{vxrmOf}
+use Rattle.operation.specs.declared.Size.{Size}
+use Rattle.operation.specs.declared.Size.the-variants.{Absent, Bit, Eighth, Quarter, Half, Single, Double}
+use Rattle.operation.specs.declared.V0.{V0}
+use Rattle.operation.specs.declared.V0.the-variants.{Masks, Operand, MaybeOperand, Unused}
+use Rattle.operation.specs.declared.Shape.{Shape}
+use Rattle.operation.specs.Shape.{eewOf, shapeOf}
+use Rattle.control.specs.declared.Board.{Board}
+use Rattle.control.specs.declared.Control.{Control}
+use Rattle.control.specs.Vtype.{sewOf, lmul8Of}
+use Rattle.decode.specs.declared.Arithmetic.{Arithmetic}
+use Rattle.decode.specs.declared.Access.{Access}
+use Rattle.decode.specs.declared.Source.{Source}
+use Rattle.decode.specs.declared.Source.the-variants.{Vector, Scalar, Immediate}
+use Rattle.decode.specs.declared.Mode.{Mode}
+use Rattle.decode.specs.declared.Mode.the-variants.{UnitStride, Strided, Indexed, MaskBytes, Whole}
+use Rattle.decode.specs.declared.Instruction.{Instruction}
+use Rattle.decode.specs.declared.Instruction.the-variants as I
+use Rattle.group.specs.declared.Group.{Group}
+use Rattle.group.specs.Group.{emul8Of, maskGroup}
+use Rattle.plan.specs.declared.Read.{Read}
+use Rattle.plan.specs.declared.Read.the-variants as R
+use Rattle.plan.specs.declared.Transfer.{Transfer}
+use Rattle.plan.specs.declared.Action.the-variants as A
+use Rattle.plan.specs.declared.Elementwise.{Elementwise}
+use Rattle.plan.specs.declared.OneTurn.the-variants as O
+use Rattle.plan.specs.declared.Plan.{Plan}
+use Rattle.plan.specs.declared.Plan.the-variants as P
+
+-- "x0 reads 0"
+abbrev pub scalarOf : List ℕ → ℕ → ℕ
+scalarOf x r = cond (eqb r 0) 0 (getD x r 0)
+
+-- ---- operands (section 6.2), at the vtype v
+
+-- a group of elements of EEW bits: EMUL = EEW / SEW * LMUL
+abbrev pub groupAt : ℕ → ℕ → ℕ → Group
+groupAt v eew reg = record { reg = reg; eew = eew; emul8 = emul8Of (sewOf v) (lmul8Of v) eew }
+
+-- the registers of an operand, by its size: none, a mask register, or a group
+unfoldable pub readAt : ℕ → Size → ℕ → Read
+readAt v Absent reg = R.Constant 0
+readAt v Bit reg = R.Bit reg
+readAt v Eighth reg = R.Element (groupAt v (eewOf Eighth (sewOf v)) reg)
+readAt v Quarter reg = R.Element (groupAt v (eewOf Quarter (sewOf v)) reg)
+readAt v Half reg = R.Element (groupAt v (eewOf Half (sewOf v)) reg)
+readAt v Single reg = R.Element (groupAt v (eewOf Single (sewOf v)) reg)
+readAt v Double reg = R.Element (groupAt v (eewOf Double (sewOf v)) reg)
+
+-- the same as a group to be written; a mask register is a group of EEW 1. Every operation has a destination, so that the first clause is
+-- never used
+abbrev pub groupOf : Read → Group
+groupOf (R.Constant n) = maskGroup 0
+groupOf (R.Element g) = g
+groupOf (R.Bit reg) = maskGroup reg
+
+-- the second source (section 11.1; document 01, 'Numbers'): scalars give their low SEW bits; immediates are sign-extended, but for the
+-- unsigned ones of shifts and clips
+unfoldable pub secondOf : List ℕ → ℕ → Size → Bool → Source → Read
+secondOf x v size unsigned (Vector r) = readAt v size r
+secondOf x v size unsigned (Scalar r) = R.Constant (scalarOf x r % 2 ^ sewOf v)
+secondOf x v size unsigned (Immediate n) = R.Constant (cond unsigned n (wrap (sewOf v) (signed 5 n)))
+
+-- v0 as an operand, and v0 as the mask, where vm is 0
+abbrev pub v0Read : V0 → Bool → Read
+v0Read Masks masked = R.Constant 0
+v0Read Operand masked = R.Bit 0
+v0Read MaybeOperand masked = cond masked (R.Bit 0) (R.Constant 0)
+v0Read Unused masked = R.Constant 0
+
+abbrev pub v0Masks : V0 → Bool → Bool
+v0Masks Masks masked = masked
+v0Masks Operand masked = false
+v0Masks MaybeOperand masked = false
+v0Masks Unused masked = false
+
+-- ---- arithmetic: the end is vl
+
+-- by the shape s of the operation
+unfoldable pub shapedOf : List ℕ → Control → Arithmetic → Shape → Elementwise
+shapedOf x c a s =
+    record {
+      dest = groupOf (readAt (c .vtype) (s .vd) (a .vd));
+      vs2 = readAt (c .vtype) (s .vs2) (a .vs2);
+      vs1 = secondOf x (c .vtype) (s .vs1) (s .unsigned) (a .source);
+      vd = cond (s .accumulates) (readAt (c .vtype) (s .vd) (a .vd)) (R.Constant 0);
+      v0 = v0Read (s .v0) (a .masked);
+      masked = v0Masks (s .v0) (a .masked);
+      typed = true;
+      end = c .vl;
+      action = A.Compute (record { op = a .op; sew = sewOf (c .vtype); vxrm = vxrmOf (c .vxrm) });
+    }
+
+abbrev pub computingOf : List ℕ → Control → Arithmetic → Elementwise
+computingOf x c a = shapedOf x c a (shapeOf (a .op))
+
+-- ---- loads and stores (section 8)
+
+-- element i of a group is moved to or from the address base + i * stride + its offset (machine/specs/Effect, `elementAddress`)
+unfoldable pub movingOf : Access → Bool → Group → Read → Transfer → ℕ → Elementwise
+movingOf a typed group offset t end =
+    record {
+      dest = group;
+      vs2 = offset;
+      vs1 = R.Constant 0;
+      vd = cond (a .store) (R.Element group) (R.Constant 0);
+      v0 = R.Constant 0;
+      masked = a .masked;
+      typed = typed;
+      end = end;
+      action = cond (a .store) (A.Store t) (A.Load t);
+    }
+
+-- what the modes have in common: the base x[rs1], and a group at the vtype
+module _ (b : Board) (x : List ℕ) (c : Control) (a : Access) where
+  abbrev pub steppingBy : ℕ → ℕ → Transfer
+  steppingBy stride bytes = record { base = scalarOf x (a .rs1); stride = stride; bytes = bytes }
+
+  abbrev pub movedAt : ℕ → Group
+  movedAt eew = groupAt (c .vtype) eew (a .vd)
+
+  -- Strides are registers of 64 bits taken unsigned: addresses go modulo 2^64, so that it comes to the same as the signed stride.
+  -- Indexed accesses move elements of SEW bits; mask accesses move vl/8 bytes, rounded up, of one register; whole registers have an end of
+  -- their own, the registers' bits over EEW, whatever vtype is
+  unfoldable pub byMode : Mode → Elementwise
+  byMode UnitStride = movingOf a true (movedAt (a .eew)) (R.Constant 0) (steppingBy (a .eew / 8) (a .eew / 8)) (c .vl)
+  byMode (Strided r) = movingOf a true (movedAt (a .eew)) (R.Constant 0) (steppingBy (scalarOf x r) (a .eew / 8)) (c .vl)
+  byMode (Indexed r) =
+      movingOf a true (movedAt (sewOf (c .vtype))) (R.Element (groupAt (c .vtype) (a .eew) r)) (steppingBy 0 (sewOf (c .vtype) / 8)) (c .vl)
+  byMode MaskBytes =
+      movingOf a true (record { reg = a .vd; eew = 8; emul8 = 8 }) (R.Constant 0) (steppingBy 1 1) ((c .vl + 7) / 8)
+  byMode (Whole n) =
+      movingOf a false (record { reg = a .vd; eew = a .eew; emul8 = 8 * n }) (R.Constant 0) (steppingBy (a .eew / 8) (a .eew / 8))
+      (n * (8 * b .vlenb) / a .eew)
+
+abbrev pub transferringOf : Board → List ℕ → Control → Access → Elementwise
+transferringOf b x c a = byMode b x c a (a .mode)
+
+-- ---- every decoded word
+
+-- Where vill is set, SEW and LMUL are those of zero bits, 8 and 1; a plan that goes by vtype is then not legal (`startable`, Legal)
+module _ (b : Board) (x : List ℕ) (c : Control) where
+  unfoldable pub planOf : Instruction → Plan
+  planOf I.Illegal = P.Illegal
+  planOf (I.Setting t) = P.OneTurn (O.Setting t)
+  planOf (I.Mask m) = P.OneTurn (O.Mask m)
+  planOf (I.Arithmetic a) = P.Elements (computingOf x c a)
+  planOf (I.Memory a) = P.Elements (transferringOf b x c a)

@@ -1,0 +1,30 @@
+-- For contracts of inner functions, not to be believed: the registers of a plan are register numbers that there are.
+use Prim.Native.Nat.{_<_}
+use Rattle.decode.specs.Fields.{SettingFits, MaskFits}
+use Rattle.plan.specs.declared.Read.{Read}
+use Rattle.plan.specs.declared.Read.the-variants as R
+use Rattle.plan.specs.declared.Elementwise.{Elementwise}
+use Rattle.plan.specs.declared.OneTurn.{OneTurn}
+use Rattle.plan.specs.declared.OneTurn.the-variants as O
+use Rattle.plan.specs.declared.Plan.{Plan}
+use Rattle.plan.specs.declared.Plan.the-variants as P
+
+abbrev pub ReadInRange : Read → Type 0
+ReadInRange (R.Constant n) = Unit {0}
+ReadInRange (R.Element g) = g .reg < 32
+ReadInRange (R.Bit reg) = reg < 32
+
+pub record InRange (e : Elementwise) : Type 0 where
+  pub dest : e .dest .reg < 32
+  pub vs2 : ReadInRange (e .vs2)
+  pub vs1 : ReadInRange (e .vs1)
+  pub vd : ReadInRange (e .vd)
+
+abbrev pub OneTurnFits : OneTurn → Type 0
+OneTurnFits (O.Setting t) = SettingFits t
+OneTurnFits (O.Mask m) = MaskFits m
+
+abbrev pub PlanFits : Plan → Type 0
+PlanFits P.Illegal = Unit {0}
+PlanFits (P.OneTurn t) = OneTurnFits t
+PlanFits (P.Elements e) = InRange e

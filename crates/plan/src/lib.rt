@@ -1,0 +1,498 @@
+// What a decoded word means at a board, scalars and a control record: its plan, worked out once before the first element; and whether that
+// is legal.
+ghost use mathlib.Core.Path.{_≡_};
+ghost use Prim.Native.Nat.{_≤_, _<_};
+ghost use lib.ListN.{length};
+ghost use mathlib.Core.Bool.{cond};
+ghost use Rattle.width.specs.Width.{signed, wrap};
+ghost use Rattle.control.specs.Board.{Valid};
+ghost use Rattle.control.specs.Vtype.{sewOf};
+ghost use Rattle.decode.specs.Fields.{SourceFits, ArithmeticFits, AccessFits, Fits};
+ghost use Rattle.plan.specs.declared.Read.the-variants.{Constant};
+ghost use Rattle.plan.specs.declared.Action.the-variants.{Load, Store};
+ghost use Rattle.plan.specs.Plan.{scalarOf, groupAt, readAt, groupOf, secondOf, v0Read, v0Masks};
+ghost use Rattle.plan.specs.Plan.{computingOf, movingOf, transferringOf, planOf};
+ghost use Rattle.plan.specs.Legal.{startable, readFits, writesRegisters, isBit, operandsFit, isThere, elementsLegal};
+ghost use Rattle.plan.specs.Legal.{writesMask, maskApart, oneTurnLegal, legalOf, checkedOf};
+ghost use Rattle.plan.specs.Range.{ReadInRange, InRange, PlanFits};
+use control::Board;
+use control::Control;
+use decode::Access;
+use decode::Arithmetic;
+use decode::Instruction;
+use decode::MaskInstruction;
+use decode::MaskOp;
+use decode::Mode;
+use decode::Setting;
+use decode::Source;
+use fixed::Vxrm;
+use group::Group;
+use operation::Op;
+use operation::Size;
+use operation::V0;
+
+// Where an operand's element comes from: the same number at every index, an element of a register group, or a bit of a mask register.
+pub enum Read {
+    Constant(u64),
+    Element(Group),
+    Bit(usize),
+}
+
+// An operation at a SEW and a rounding mode.
+pub struct Compute {
+    pub op: Op,
+    pub sew: u64,
+    pub vxrm: Vxrm,
+}
+
+// A transfer of elements of so many bytes: element i lies at base + i * stride + the element of vs2.
+pub struct Transfer {
+    pub base: u64,
+    pub stride: u64,
+    pub bytes: u64,
+}
+
+// What is done at each element.
+pub enum Action {
+    Compute(Compute),
+    Load(Transfer),
+    Store(Transfer),
+}
+
+// What an instruction of elements does, whatever its word was.
+pub struct Elementwise {
+    // what is written; of a store, what is read
+    pub dest: Group,
+    pub vs2: Read,
+    pub vs1: Read,
+    pub vd: Read,
+    pub v0: Read,
+    // v0 says which elements are active
+    pub masked: bool,
+    // it goes by vtype, so that vill must be clear and vstart below 8 * VLEN / SEW: not so for whole registers
+    pub typed: bool,
+    // how many elements there are
+    pub end: u64,
+    pub action: Action,
+}
+
+// An instruction that takes one turn.
+pub enum OneTurn {
+    Setting(Setting),
+    Mask(MaskInstruction),
+}
+
+// What a decoded word means: nothing, something that takes one turn, or elements.
+pub enum Plan {
+    Illegal,
+    OneTurn(OneTurn),
+    Elements(Elementwise),
+}
+
+// ---- operands
+
+// A group of elements of so many bits.
+fn group_at(vtype: u64, eew: u64, reg: usize) -> Group
+    requires { ⌜ eew ≤ 2048 ⌝ }
+    ensures { λ r. ⌜ r ≡ groupAt vtype eew reg ⌝ }
+{
+    let sew = Control::sew(vtype) as usize;
+    let lmul8 = Control::lmul8(vtype) as usize;
+    let e = eew as usize;
+    Group {
+        reg,
+        eew: e,
+        emul8: group::emul8(sew, lmul8, e),
+    }
+}
+
+// The registers of an operand, by its size.
+fn read_at(vtype: u64, size: Size, reg: usize) -> Read
+    ensures { λ r. ⌜ r ≡ readAt vtype size reg ⌝ }
+{
+    let sew = Control::sew(vtype);
+    let group = group_at(vtype, operation::eew(size, sew), reg);
+    match size {
+        Size::Absent => Read::Constant(0),
+        Size::Bit => Read::Bit(reg),
+        Size::Eighth => Read::Element(group),
+        Size::Quarter => Read::Element(group),
+        Size::Half => Read::Element(group),
+        Size::Single => Read::Element(group),
+        Size::Double => Read::Element(group),
+    }
+}
+
+// A read that is there on a condition.
+fn read_if(there: bool, read: Read) -> Read
+    ensures { λ r. ⌜ r ≡ cond there read (Constant 0) ⌝ }
+{
+    if there {
+        return read;
+    }
+    Read::Constant(0)
+}
+
+// What is read as a group to be written.
+fn group_of(read: Read) -> Group
+    ensures { λ r. ⌜ r ≡ groupOf read ⌝ }
+{
+    match read {
+        Read::Constant(_) => group::mask(0),
+        Read::Element(g) => g,
+        Read::Bit(reg) => group::mask(reg),
+    }
+}
+
+// x0 reads 0.
+pub fn scalar(x: &[u64], r: usize) -> u64
+    requires { ⌜ (length (now x) ≡ 32) × (r < 32) ⌝ }
+    ensures { λ z. ⌜ z ≡ scalarOf (now (x .entry)) r ⌝ }
+{
+    if r == 0 {
+        return 0;
+    }
+    x[r]
+}
+
+// A 5-bit immediate at SEW: sign-extended, unless it is an unsigned one.
+fn immediate(sew: u64, unsigned: bool, n: u64) -> u64
+    requires { ⌜ (1 ≤ sew) × ((sew ≤ 64) × (n < 32)) ⌝ }
+    ensures { λ r. ⌜ r ≡ cond unsigned n (wrap sew (signed 5 n)) ⌝ }
+{
+    if unsigned {
+        return n;
+    }
+    integer::extend(5, sew, n)
+}
+
+// The second source.
+fn second(x: &[u64], vtype: u64, size: Size, unsigned: bool, source: Source) -> Read
+    requires { ⌜ (length (now x) ≡ 32) × ((sewOf vtype ≤ 64) × SourceFits source) ⌝ }
+    ensures { λ r. ⌜ r ≡ secondOf (now (x .entry)) vtype size unsigned source ⌝ }
+{
+    let sew = Control::sew(vtype);
+    match source {
+        Source::Vector(r) => read_at(vtype, size, r),
+        Source::Scalar(r) => Read::Constant(width::low(sew, scalar(x, r))),
+        Source::Immediate(n) => Read::Constant(immediate(sew, unsigned, n)),
+    }
+}
+
+// v0 as an operand.
+fn v0_read(v0: V0, masked: bool) -> Read
+    ensures { λ r. ⌜ r ≡ v0Read v0 masked ⌝ }
+{
+    match v0 {
+        V0::Masks => Read::Constant(0),
+        V0::Operand => Read::Bit(0),
+        V0::MaybeOperand => {
+            if masked {
+                Read::Bit(0)
+            } else {
+                Read::Constant(0)
+            }
+        }
+        V0::Unused => Read::Constant(0),
+    }
+}
+
+// v0 as the mask.
+fn v0_masks(v0: V0, masked: bool) -> bool
+    ensures { λ r. ⌜ r ≡ v0Masks v0 masked ⌝ }
+{
+    match v0 {
+        V0::Masks => masked,
+        V0::Operand => false,
+        V0::MaybeOperand => false,
+        V0::Unused => false,
+    }
+}
+
+// An arithmetic instruction.
+fn computing(x: &[u64], control: Control, a: Arithmetic) -> Elementwise
+    requires { ⌜ (length (now x) ≡ 32) × ((sewOf (control .vtype) ≤ 64) × ArithmeticFits a) ⌝ }
+    ensures { λ r. ⌜ r ≡ computingOf (now (x .entry)) control a ⌝ }
+{
+    let op = a.op;
+    let source = a.source;
+    let shape = operation::shape_of(op);
+    let size_d = shape.vd;
+    let size_2 = shape.vs2;
+    let size_1 = shape.vs1;
+    let v0 = shape.v0;
+    let vtype = control.vtype;
+    let result = read_at(vtype, size_d, a.vd);
+    let vs2 = read_at(vtype, size_2, a.vs2);
+    let vs1 = second(x, vtype, size_1, shape.unsigned, source);
+    let vd = read_if(shape.accumulates, result);
+    let dest = group_of(result);
+    let mask = v0_read(v0, a.masked);
+    let sew = Control::sew(vtype);
+    let vxrm = fixed::vxrm_of(control.vxrm);
+    Elementwise {
+        dest,
+        vs2,
+        vs1,
+        vd,
+        v0: mask,
+        masked: v0_masks(v0, a.masked),
+        typed: true,
+        end: control.vl,
+        action: Action::Compute(Compute { op, sew, vxrm }),
+    }
+}
+
+// ---- memory
+
+// A store or a load.
+fn action_of(store: bool, transfer: Transfer) -> Action
+    ensures { λ r. ⌜ r ≡ cond store (Store transfer) (Load transfer) ⌝ }
+{
+    if store {
+        return Action::Store(transfer);
+    }
+    Action::Load(transfer)
+}
+
+// A load or a store of a group.
+fn moving(
+    a: Access,
+    typed: bool,
+    group: Group,
+    offset: Read,
+    transfer: Transfer,
+    end: u64,
+) -> Elementwise
+    ensures { λ r. ⌜ r ≡ movingOf a typed group offset transfer end ⌝ }
+{
+    let vd = read_if(a.store, Read::Element(group));
+    let action = action_of(a.store, transfer);
+    Elementwise {
+        dest: group,
+        vs2: offset,
+        vs1: Read::Constant(0),
+        vd,
+        v0: Read::Constant(0),
+        masked: a.masked,
+        typed,
+        end,
+        action,
+    }
+}
+
+// Elements of so many bytes, a stride apart.
+fn transfer_by(base: u64, stride: u64, bytes: u64) -> Transfer
+    ensures { λ r. ⌜ r ≡ record { base = base; stride = stride; bytes = bytes } ⌝ }
+{
+    Transfer {
+        base,
+        stride,
+        bytes,
+    }
+}
+
+// A group that does not go by vtype.
+fn fixed_group(reg: usize, eew: usize, emul8: usize) -> Group
+    ensures { λ r. ⌜ r ≡ record { reg = reg; eew = eew; emul8 = emul8 } ⌝ }
+{
+    Group { reg, eew, emul8 }
+}
+
+// A load or a store, by its addressing mode.
+fn transferring(board: Board, x: &[u64], control: Control, a: Access) -> Elementwise
+    requires { ⌜ Valid board × ((length (now x) ≡ 32) × ((control .vl ≤ 128) × AccessFits a)) ⌝ }
+    ensures { λ r. ⌜ r ≡ transferringOf board (now (x .entry)) control a ⌝ }
+{
+    let mode = a.mode;
+    let vtype = control.vtype;
+    let vl = control.vl;
+    let base = scalar(x, a.rs1);
+    let eew = a.eew;
+    let bytes = eew / 8;
+    let plain = Read::Constant(0);
+    let unit = transfer_by(base, bytes, bytes);
+    match mode {
+        Mode::UnitStride => moving(a, true, group_at(vtype, eew, a.vd), plain, unit, vl),
+        Mode::Strided(r) => {
+            let t = transfer_by(base, scalar(x, r), bytes);
+            moving(a, true, group_at(vtype, eew, a.vd), plain, t, vl)
+        }
+        Mode::Indexed(r) => {
+            let sew = Control::sew(vtype);
+            let offset = Read::Element(group_at(vtype, eew, r));
+            let t = transfer_by(base, 0, sew / 8);
+            moving(a, true, group_at(vtype, sew, a.vd), offset, t, vl)
+        }
+        Mode::MaskBytes => {
+            let t = transfer_by(base, 1, 1);
+            moving(a, true, fixed_group(a.vd, 8, 8), plain, t, (vl + 7) / 8)
+        }
+        Mode::Whole(n) => {
+            let end = (n as u64) * (8 * board.vlenb) / eew;
+            moving(
+                a,
+                false,
+                fixed_group(a.vd, eew as usize, 8 * n),
+                plain,
+                unit,
+                end,
+            )
+        }
+    }
+}
+
+// ---- every decoded word
+
+// The plan of a decoded word.
+fn plan_of(board: Board, x: &[u64], control: Control, instruction: Instruction) -> Plan
+    requires { ⌜ Valid board × ((length (now x) ≡ 32) × ((sewOf (control .vtype) ≤ 64) × ((control .vl ≤ 128) × Fits instruction))) ⌝ }
+    ensures { λ r. ⌜ r ≡ planOf board (now (x .entry)) control instruction ⌝ }
+{
+    match instruction {
+        Instruction::Illegal => Plan::Illegal,
+        Instruction::Setting(t) => Plan::OneTurn(OneTurn::Setting(t)),
+        Instruction::Mask(m) => Plan::OneTurn(OneTurn::Mask(m)),
+        Instruction::Arithmetic(a) => Plan::Elements(computing(x, control, a)),
+        Instruction::Memory(a) => Plan::Elements(transferring(board, x, control, a)),
+    }
+}
+
+// ---- legality
+
+// vill is clear, and vstart below 8 * VLEN / SEW.
+fn may_start(board: Board, control: Control) -> bool
+    requires { ⌜ Valid board ⌝ }
+    ensures { λ r. ⌜ r ≡ startable board control ⌝ }
+{
+    (control.vtype != 0x8000_0000_0000_0000)
+        & (control.vstart < 64 * board.vlenb / Control::sew(control.vtype))
+}
+
+// Whether an operand is legal beside a destination, where that is written.
+fn read_fits(elen: usize, writes: bool, dest: Group, read: Read) -> bool
+    requires { ⌜ (dest .reg < 32) × ReadInRange read ⌝ }
+    ensures { λ r. ⌜ r ≡ readFits elen writes dest read ⌝ }
+{
+    match read {
+        Read::Constant(_) => true,
+        Read::Element(g) => group::placed(elen, g) & (!writes | group::may_overlap(dest, g)),
+        Read::Bit(r) => !writes | group::may_overlap(dest, group::mask(r)),
+    }
+}
+
+fn writes_registers(action: Action) -> bool
+    ensures { λ r. ⌜ r ≡ writesRegisters action ⌝ }
+{
+    match action {
+        Action::Compute(_) => true,
+        Action::Load(_) => true,
+        Action::Store(_) => false,
+    }
+}
+
+fn is_bit(read: Read) -> bool
+    ensures { λ r. ⌜ r ≡ isBit read ⌝ }
+{
+    match read {
+        Read::Constant(_) => false,
+        Read::Element(_) => false,
+        Read::Bit(_) => true,
+    }
+}
+
+// Whether the operands and the destination are well placed and overlap only as they may.
+fn operands_fit(elen: usize, e: Elementwise) -> bool
+    requires { ⌜ InRange e ⌝ }
+    ensures { λ r. ⌜ r ≡ operandsFit elen e ⌝ }
+{
+    let dest = e.dest;
+    let vs2 = e.vs2;
+    let vs1 = e.vs1;
+    let vd = e.vd;
+    let v0 = e.v0;
+    let action = e.action;
+    let writes = writes_registers(action);
+    ((dest.eew == 1) | group::placed(elen, dest))
+        & (read_fits(elen, writes, dest, vs2)
+            & (read_fits(elen, writes, dest, vs1)
+                & (read_fits(elen, writes, dest, vd)
+                    & (!writes | group::spares_v0(e.masked | is_bit(v0), dest)))))
+}
+
+// Whether an operation is there at its SEW.
+fn is_there(action: Action) -> bool
+    ensures { λ r. ⌜ r ≡ isThere action ⌝ }
+{
+    match action {
+        Action::Compute(k) => {
+            let op = k.op;
+            k.sew <= operation::largest_sew(op)
+        }
+        Action::Load(_) => true,
+        Action::Store(_) => true,
+    }
+}
+
+fn elements_legal(board: Board, control: Control, e: Elementwise) -> bool
+    requires { ⌜ Valid board × InRange e ⌝ }
+    ensures { λ r. ⌜ r ≡ elementsLegal board control e ⌝ }
+{
+    let action = e.action;
+    (!e.typed | may_start(board, control))
+        & (is_there(action) & operands_fit(board.elen as usize, e))
+}
+
+fn writes_mask(op: MaskOp) -> bool
+    ensures { λ r. ⌜ r ≡ writesMask op ⌝ }
+{
+    match op {
+        MaskOp::Vcpop => false,
+        MaskOp::Vfirst => false,
+        MaskOp::Vmsbf => true,
+        MaskOp::Vmsof => true,
+        MaskOp::Vmsif => true,
+    }
+}
+
+// A mask that is written is neither the source nor the mask in v0.
+fn mask_apart(m: MaskInstruction) -> bool
+    ensures { λ r. ⌜ r ≡ maskApart m ⌝ }
+{
+    let op = m.op;
+    !writes_mask(op) | ((m.rd != m.vs2) & (!m.masked | (m.rd != 0)))
+}
+
+fn one_turn_legal(board: Board, control: Control, t: OneTurn) -> bool
+    requires { ⌜ Valid board ⌝ }
+    ensures { λ r. ⌜ r ≡ oneTurnLegal board control t ⌝ }
+{
+    match t {
+        OneTurn::Setting(_) => true,
+        OneTurn::Mask(m) => may_start(board, control) & ((control.vstart == 0) & mask_apart(m)),
+    }
+}
+
+// Whether a plan is legal.
+fn legal(board: Board, control: Control, plan: Plan) -> bool
+    requires { ⌜ Valid board × PlanFits plan ⌝ }
+    ensures { λ r. ⌜ r ≡ legalOf board control plan ⌝ }
+{
+    match plan {
+        Plan::Illegal => false,
+        Plan::OneTurn(t) => one_turn_legal(board, control, t),
+        Plan::Elements(e) => elements_legal(board, control, e),
+    }
+}
+
+// The plan of a decoded word where it is legal, and `Illegal` where not.
+pub fn checked(board: Board, x: &[u64], control: Control, instruction: Instruction) -> Plan
+    requires { ⌜ Valid board × ((length (now x) ≡ 32) × ((sewOf (control .vtype) ≤ 64) × ((control .vl ≤ 128) × Fits instruction))) ⌝ }
+    ensures { λ r. ⌜ r ≡ checkedOf board control (planOf board (now (x .entry)) control instruction) ⌝ }
+{
+    let plan = plan_of(board, x, control, instruction);
+    if legal(board, control, plan) {
+        return plan;
+    }
+    Plan::Illegal
+}
