@@ -1,5 +1,5 @@
 #!/usr/bin/env python3
-"""Calls of the control panel and of the register view, as crates/calls_main reads them.
+"""Reads and writes by CSR number, and calls of the register view, as crates/calls_main reads them.
 
     tests/calls.py crates/calls_main CALLS..
 

@@ -1,5 +1,5 @@
-// Runs the calls of the control panel and of the register view on given cases. Each line of standard input is a letter and seven numbers of
-// 16 hex digits: 'r' csr, 0, control record; 'w' csr, value, control record; 'v' length of the file, first register, count, and zeros.
+// Runs the reads and writes by CSR number and the register view on given cases. Each line of standard input is a letter and seven numbers
+// of 16 hex digits: 'r' csr, 0, control record; 'w' csr, value, control record; 'v' length of the file, first register, count, and zeros.
 // A read writes one line. A write writes two: by the call that is lent the record, then by the call that takes it by value. A view
 // writes two: by `view_with`, then by `place` and `view`; the start is told by the bytes found there, and a checksum is of all.
 ghost use Prim.Native.Nat.{_≤_, _<_};

@@ -10,6 +10,17 @@ use machine::Turned;
 
 // ---- the state that a case starts from, but for what its lines say
 
+// Room for a case's first line, and for each part of a state twice what the machine has, so that a case can say a wrong length.
+const HEAD: usize = 129;
+
+const REGISTERS: usize = 1024;
+
+const SCALARS: usize = 64;
+
+const MEMORY: usize = 131072;
+
+const RIGHTS: usize = 512;
+
 // What has bytes.
 enum Bytes {
     Registers,
@@ -63,20 +74,17 @@ fn fill_scalars(scalars: &mut [u64]) {
 }
 
 // Memory before every case.
-fn image() -> [u8; 131072]
-    ensures { λ r. ⌜ 131072 ≡ length r ⌝ }
-{
-    let mut memory = [0u8; 131072];
+fn image() -> [u8; MEMORY] {
+    let mut memory = [0u8; MEMORY];
     fill_bytes(Bytes::Memory, &mut memory);
     memory
 }
 
 // ---- the lines of a case
 
-fn set_scalar(scalars: &mut [u64], line: &[u8]) {
-    let at = hexadecimal::number(line, 0, 2) as usize;
-    if at < scalars.len() {
-        scalars[at] = hexadecimal::number(line, 2, 16);
+fn set_number(numbers: &mut [u64], at: usize, number: u64) {
+    if at < numbers.len() {
+        numbers[at] = number;
     }
 }
 
@@ -84,6 +92,11 @@ fn set_byte(bytes: &mut [u8], at: usize, byte: u8) {
     if at < bytes.len() {
         bytes[at] = byte;
     }
+}
+
+fn set_scalar(scalars: &mut [u64], line: &[u8]) {
+    let at = hexadecimal::number(line, 0, 2) as usize;
+    set_number(scalars, at, hexadecimal::number(line, 2, 16));
 }
 
 fn set_register(registers: &mut [u8], line: &[u8]) {
@@ -104,20 +117,16 @@ fn set_rights(rights: &mut [u8], line: &[u8]) {
     }
 }
 
-// Each is set in the state that the turn takes, and in the state from before it.
-
-fn read_scalar(scalars: &mut [u64], before: &mut [u64]) {
+fn read_scalar(scalars: &mut [u64]) {
     let mut line = [0u8; 19];
     let n = io::read_full(0, &mut line);
     set_scalar(scalars, &line[..n]);
-    set_scalar(before, &line[..n]);
 }
 
-fn read_register(registers: &mut [u8], before: &mut [u8]) {
+fn read_register(registers: &mut [u8]) {
     let mut line = [0u8; 37];
     let n = io::read_full(0, &mut line);
     set_register(registers, &line[..n]);
-    set_register(before, &line[..n]);
 }
 
 fn read_rights(rights: &mut [u8]) {
@@ -175,6 +184,22 @@ fn print_bytes(label: &[u8], bytes: &mut [u8], before: &[u8]) {
     }
 }
 
+fn copy_of_registers(registers: &[u8]) -> [u8; REGISTERS] {
+    let mut copy = [0u8; REGISTERS];
+    for k in 0..registers.len() {
+        set_byte(&mut copy, k, registers[k]);
+    }
+    copy
+}
+
+fn copy_of_scalars(scalars: &[u64]) -> [u64; SCALARS] {
+    let mut copy = [0u64; SCALARS];
+    for k in 0..scalars.len() {
+        set_number(&mut copy, k, scalars[k]);
+    }
+    copy
+}
+
 fn print_scalar(at: u64, value: u64) {
     io::write_all(1, b" x");
     io::print_decimal(1, at);
@@ -193,42 +218,25 @@ fn print_scalars(scalars: &[u64], before: &[u64]) {
     }
 }
 
-fn print_changes(
-    registers: &mut [u8],
-    scalars: &[u64],
-    memory: &mut [u8],
-    registers_before: &[u8],
-    scalars_before: &[u64],
-    memory_before: &[u8],
-) {
-    print_bytes(b" v", registers, registers_before);
-    print_scalars(scalars, scalars_before);
-    print_bytes(b" m", memory, memory_before);
-    io::write_all(1, b"\n");
-}
-
+// The turn, and what it changed.
 fn take_turn(
     head: &[u8],
     registers: &mut [u8],
     scalars: &mut [u64],
     memory: &mut [u8],
     rights: &[u8],
-    registers_before: &[u8],
-    scalars_before: &[u64],
     memory_before: &[u8],
 ) {
     let word = hexadecimal::number(head, 0, 8) as u32;
     let allowance = hexadecimal::number(head, 8, 8) as u32;
     let control = case_lines::control_at(head, 16);
+    let registers_before = copy_of_registers(registers);
+    let scalars_before = copy_of_scalars(scalars);
     print_turned(turn::turn(word, allowance, registers, scalars, memory, rights, control));
-    print_changes(
-        registers,
-        scalars,
-        memory,
-        registers_before,
-        scalars_before,
-        memory_before,
-    );
+    print_bytes(b" v", registers, &registers_before);
+    print_scalars(scalars, &scalars_before);
+    print_bytes(b" m", memory, memory_before);
+    io::write_all(1, b"\n");
 }
 
 // A length of a case, at most the room that there is.
@@ -245,8 +253,6 @@ fn finish(
     scalars: &mut [u64],
     memory: &mut [u8],
     rights: &[u8],
-    registers_before: &[u8],
-    scalars_before: &[u64],
     memory_before: &[u8],
 ) {
     let of_registers = capped(hexadecimal::number(head, 96, 8), registers.len());
@@ -259,8 +265,6 @@ fn finish(
         &mut scalars[..of_scalars],
         &mut memory[..of_memory],
         &rights[..of_rights],
-        registers_before,
-        scalars_before,
         memory_before,
     );
 }
@@ -278,56 +282,34 @@ fn read_kind() -> u8 {
 }
 
 fn start(
-    head: &mut [u8],
-    registers: &mut [u8],
-    scalars: &mut [u64],
-    rights: &mut [u8],
-    registers_before: &mut [u8],
-    scalars_before: &mut [u64],
+    head: &mut [u8; HEAD],
+    registers: &mut [u8; REGISTERS],
+    scalars: &mut [u64; SCALARS],
+    rights: &mut [u8; RIGHTS],
 ) {
     io::read_full(0, head);
     fill_bytes(Bytes::Registers, registers);
-    fill_bytes(Bytes::Registers, registers_before);
     fill_scalars(scalars);
-    fill_scalars(scalars_before);
     fill_bytes(Bytes::Rights, rights);
 }
 
 // The next line; false where there is none.
 fn step(
-    head: &mut [u8],
-    registers: &mut [u8],
-    scalars: &mut [u64],
-    memory: &mut [u8],
-    rights: &mut [u8],
-    registers_before: &mut [u8],
-    scalars_before: &mut [u64],
-    memory_before: &[u8],
+    head: &mut [u8; HEAD],
+    registers: &mut [u8; REGISTERS],
+    scalars: &mut [u64; SCALARS],
+    memory: &mut [u8; MEMORY],
+    rights: &mut [u8; RIGHTS],
+    memory_before: &[u8; MEMORY],
 ) -> bool {
     match read_kind() {
-        99 => start(
-            head,
-            registers,
-            scalars,
-            rights,
-            registers_before,
-            scalars_before,
-        ),
-        120 => read_scalar(scalars, scalars_before),
-        118 => read_register(registers, registers_before),
+        99 => start(head, registers, scalars, rights),
+        120 => read_scalar(scalars),
+        118 => read_register(registers),
         112 => read_rights(rights),
         46 => {
             read_end();
-            finish(
-                head,
-                registers,
-                scalars,
-                memory,
-                rights,
-                registers_before,
-                scalars_before,
-                memory_before,
-            );
+            finish(head, registers, scalars, memory, rights, memory_before);
         }
         _ => return false,
     }
@@ -335,39 +317,26 @@ fn step(
 }
 
 fn read_lines(
-    head: &mut [u8],
-    registers: &mut [u8],
-    scalars: &mut [u64],
-    memory: &mut [u8],
-    rights: &mut [u8],
-    registers_before: &mut [u8],
-    scalars_before: &mut [u64],
-    memory_before: &[u8],
+    head: &mut [u8; HEAD],
+    registers: &mut [u8; REGISTERS],
+    scalars: &mut [u64; SCALARS],
+    memory: &mut [u8; MEMORY],
+    rights: &mut [u8; RIGHTS],
+    memory_before: &[u8; MEMORY],
 ) {
     for _ in 0..1000000usize {
-        if !step(
-            head,
-            registers,
-            scalars,
-            memory,
-            rights,
-            registers_before,
-            scalars_before,
-            memory_before,
-        ) {
+        if !step(head, registers, scalars, memory, rights, memory_before) {
             break;
         }
     }
 }
 
 fn main() {
-    let mut head = [0u8; 129];
-    let mut registers = [0u8; 1024];
-    let mut scalars = [0u64; 64];
+    let mut head = [0u8; HEAD];
+    let mut registers = [0u8; REGISTERS];
+    let mut scalars = [0u64; SCALARS];
     let mut memory = image();
-    let mut rights = [0u8; 512];
-    let mut registers_before = [0u8; 1024];
-    let mut scalars_before = [0u64; 64];
+    let mut rights = [0u8; RIGHTS];
     let memory_before = image();
     read_lines(
         &mut head,
@@ -375,8 +344,6 @@ fn main() {
         &mut scalars,
         &mut memory,
         &mut rights,
-        &mut registers_before,
-        &mut scalars_before,
         &memory_before,
     );
 }
