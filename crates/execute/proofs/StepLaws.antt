@@ -26,7 +26,7 @@ use Rattle.plan.specs.declared.Transfer.{Transfer}
 use Rattle.plan.specs.declared.Elementwise.{Elementwise}
 use Rattle.turn_theory.specs.Turn.{Effect, write}
 use Rattle.machine.specs.State.{Core}
-use Rattle.machine.specs.Effect.{Write, toRegisters, toMemory, valueOf, activeOf, elementAddress, ifGranted, actingOf, effectOf}
+use Rattle.machine.specs.Effect.{Write, toRegisters, toMemory, valueOf, activeOf, elementAddress, ifGranted, loading, storing, actingOf, effectOf}
 use Rattle.execute.specs.declared.Step.{Step}
 use Rattle.execute.specs.declared.Step.the-variants as S
 use Rattle.execute.specs.Step.{ReadInside, OperandsFit, ActionFits, Did}
@@ -38,10 +38,6 @@ read-inside size vlenb i read v e h = rw e at h
 
 pub value-of : (vlenb i r : ℕ) (file : List ℕ) (read v : Read) → read ≡ v → r ≡ valueOf vlenb file v i → r ≡ valueOf vlenb file read i
 value-of vlenb i r file read v e p = rw e p
-
--- the address by an offset that is known
-pub reached : (t : Transfer) (i a o p : ℕ) → o ≡ p → a ≡ elementAddress t i o → a ≡ elementAddress t i p
-reached t i a o p e h = rw e at h
 
 -- ---- accesses
 
@@ -65,31 +61,42 @@ granted-inside rights memory store a n v p q =
     go false false false e h = never _ h
     go false false true e h = leb-true (a + n) memory e
 
--- a is the address as it was worked out, b as it is defined
-module _ (vlenb n a b : ℕ) (rights file memory : List ℕ) where
+module _ (vlenb n a : ℕ) (rights file memory : List ℕ) where
   pub faulted : (store : Bool) (w : Effect Fault Write) (v : AccessCheck) (f : Fault)
-      → a ≡ b → v ≡ accessOf rights (length memory) store a n → v ≡ Faulted f
-      → Did vlenb (ifGranted (accessOf rights (length memory) store b n) w) file memory (S.Fault f) file memory
-  faulted store w v f e p q =
-      let h : accessOf rights (length memory) store b n ≡ Faulted f = cc in
+      → v ≡ accessOf rights (length memory) store a n → v ≡ Faulted f
+      → Did vlenb (ifGranted (accessOf rights (length memory) store a n) w) file memory (S.Fault f) file memory
+  faulted store w v f p q =
+      let h : accessOf rights (length memory) store a n ≡ Faulted f = cc in
       record { step = rw h; registers = rw h; memory = rw h }
 
   pub loaded : (g : Group) (i x : ℕ) (v : AccessCheck) (file′ : List ℕ)
-      → a ≡ b → v ≡ accessOf rights (length memory) false a n → v ≡ Granted
+      → v ≡ accessOf rights (length memory) false a n → v ≡ Granted
       → x ≡ bytesAt memory a n → file′ ≡ withElement vlenb file (g .reg) (g .eew) i x
-      → Did vlenb (ifGranted (accessOf rights (length memory) false b n) (write (toRegisters g i (exact (bytesAt memory b n)))))
+      → Did vlenb (ifGranted (accessOf rights (length memory) false a n) (write (toRegisters g i (exact (bytesAt memory a n)))))
       file memory (S.Next false) file′ memory
-  loaded g i x v file′ e p q r l =
-      let h : accessOf rights (length memory) false b n ≡ Granted = cc in
-      record { step = rw h; registers = rw (h, ← e, ← r) l; memory = rw h }
+  loaded g i x v file′ p q r l =
+      let h : accessOf rights (length memory) false a n ≡ Granted = cc in
+      record { step = rw h; registers = rw (h, ← r) l; memory = rw h }
 
-  pub stored : (x y : ℕ) (v : AccessCheck) (memory′ : List ℕ)
-      → a ≡ b → v ≡ accessOf rights (length memory) true a n → v ≡ Granted
-      → x ≡ y → memory′ ≡ withBytes memory a n x
-      → Did vlenb (ifGranted (accessOf rights (length memory) true b n) (write (toMemory b n y))) file memory (S.Next false) file memory′
-  stored x y v memory′ e p q r l =
-      let h : accessOf rights (length memory) true b n ≡ Granted = cc in
-      record { step = rw h; registers = rw h; memory = rw (h, ← e, ← r) l }
+  pub stored : (x : ℕ) (v : AccessCheck) (memory′ : List ℕ)
+      → v ≡ accessOf rights (length memory) true a n → v ≡ Granted → memory′ ≡ withBytes memory a n x
+      → Did vlenb (ifGranted (accessOf rights (length memory) true a n) (write (toMemory a n x))) file memory (S.Next false) file memory′
+  stored x v memory′ p q l =
+      let h : accessOf rights (length memory) true a n ≡ Granted = cc in
+      record { step = rw h; registers = rw h; memory = rw h l }
+
+-- by the address, and the value of a store, as they were worked out
+module _ (vlenb : ℕ) (rights file memory file′ memory′ : List ℕ) (s : Core) (t : Transfer) (r : Step) (a i o p : ℕ)
+    (e : o ≡ p) (h : a ≡ elementAddress t i o) where
+  pub loads-from : (w : Elementwise)
+      → Did vlenb (loading rights s w t i a) file memory r file′ memory′
+      → Did vlenb (loading rights s w t i (elementAddress t i p)) file memory r file′ memory′
+  loads-from w d = rw (h, e) at d
+
+  pub stores-to : (x y : ℕ) → x ≡ y
+      → Did vlenb (storing rights s t x a) file memory r file′ memory′
+      → Did vlenb (storing rights s t y (elementAddress t i p)) file memory r file′ memory′
+  stores-to x y g d = rw (h, e, g) at d
 
 -- ---- elements
 

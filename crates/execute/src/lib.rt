@@ -79,7 +79,7 @@ fn address(t: Transfer, i: u64, offset: u64) -> u64
     )
 }
 
-// A load of element i.
+// A load of element i from address a.
 fn load(
     registers: &mut [u8],
     memory: &[u8],
@@ -88,19 +88,17 @@ fn load(
     e: Elementwise,
     t: Transfer,
     i: usize,
+    a: u64,
 ) -> Step
     requires { ⌜
-        Ready (length (now registers)) vlenb e i
+        Inside (length (now registers)) vlenb (e .dest .reg) (e .dest .eew) i
         × ((length (now rights) ≡ 256) × ((length (now memory) ≤ 65536) × T (byteSize (t .bytes)))) ⌝ }
     ensures { λ r. ⌜
         ((x : List ℕ) (c : Control) → Did vlenb
-        (loading (now (rights .entry)) (coreAt (now (registers .entry)) (now (memory .entry)) x c) e t i
-        (elementAddress t i (valueOf vlenb (now (registers .entry)) (e .vs2) i)))
+        (loading (now (rights .entry)) (coreAt (now (registers .entry)) (now (memory .entry)) x c) e t i a)
         (now (registers .entry)) (now (memory .entry)) r (now (registers .exit)) (now (memory .entry))) ⌝ }
 {
-    let vs2 = e.vs2;
     let dest = e.dest;
-    let a = address(t, i as u64, value(registers, vlenb, vs2, i));
     match access::access(rights, memory.len(), false, a, t.bytes) {
         AccessCheck::Faulted(fault) => Step::Fault(fault),
         AccessCheck::Granted => {
@@ -111,34 +109,18 @@ fn load(
     }
 }
 
-// A store of element i.
-fn store(
-    registers: &[u8],
-    memory: &mut [u8],
-    rights: &[u8],
-    vlenb: usize,
-    e: Elementwise,
-    t: Transfer,
-    i: usize,
-) -> Step
-    requires { ⌜
-        Ready (length (now registers)) vlenb e i
-        × ((length (now rights) ≡ 256) × ((length (now memory) ≤ 65536) × T (byteSize (t .bytes)))) ⌝ }
+// A store of the element `value` to address a.
+fn store(memory: &mut [u8], rights: &[u8], t: Transfer, value: u64, a: u64) -> Step
+    requires { ⌜ (length (now rights) ≡ 256) × ((length (now memory) ≤ 65536) × T (byteSize (t .bytes))) ⌝ }
     ensures { λ r. ⌜
-        ((x : List ℕ) (c : Control) → Did vlenb
-        (storing (now (rights .entry)) (coreAt (now (registers .entry)) (now (memory .entry)) x c) t
-        (valueOf vlenb (now (registers .entry)) (e .vd) i)
-        (elementAddress t i (valueOf vlenb (now (registers .entry)) (e .vs2) i)))
-        (now (registers .entry)) (now (memory .entry)) r (now (registers .entry)) (now (memory .exit))) ⌝ }
+        ((vlenb : ℕ) (file x : List ℕ) (c : Control) → Did vlenb
+        (storing (now (rights .entry)) (coreAt file (now (memory .entry)) x c) t value a)
+        file (now (memory .entry)) r file (now (memory .exit))) ⌝ }
 {
-    let vs2 = e.vs2;
-    let vd = e.vd;
-    let a = address(t, i as u64, value(registers, vlenb, vs2, i));
     match access::access(rights, memory.len(), true, a, t.bytes) {
         AccessCheck::Faulted(fault) => Step::Fault(fault),
         AccessCheck::Granted => {
-            let x = value(registers, vlenb, vd, i);
-            layout::write_bytes(memory, a as usize, t.bytes as usize, x);
+            layout::write_bytes(memory, a as usize, t.bytes as usize, value);
             Step::Next(false)
         }
     }
@@ -164,12 +146,21 @@ pub fn perform(
 {
     let vlenb = board.vlenb as usize;
     let action = e.action;
+    let vs2 = e.vs2;
+    let vd = e.vd;
     if !active(registers, vlenb, e.masked, i) {
         return Step::Next(false);
     }
     match action {
         Action::Compute(k) => compute(registers, vlenb, e, k, i),
-        Action::Load(t) => load(registers, memory, rights, vlenb, e, t, i),
-        Action::Store(t) => store(registers, memory, rights, vlenb, e, t, i),
+        Action::Load(t) => {
+            let a = address(t, i as u64, value(registers, vlenb, vs2, i));
+            load(registers, memory, rights, vlenb, e, t, i, a)
+        }
+        Action::Store(t) => {
+            let a = address(t, i as u64, value(registers, vlenb, vs2, i));
+            let x = value(registers, vlenb, vd, i);
+            store(memory, rights, t, x, a)
+        }
     }
 }

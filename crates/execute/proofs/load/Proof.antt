@@ -1,5 +1,5 @@
 use borrow.Author.Needs.{needs}
-use Rattle.execute.proofs.StepLaws.{reached, granted-inside, faulted, loaded}
+use Rattle.execute.proofs.StepLaws.{granted-inside, faulted, loaded}
 use Rattle.execute.proofs.load.Statement.{statement}
 use Rattle.execute.proofs.load.Tie as tie
 
@@ -8,13 +8,10 @@ load-spec =
     tie.close
     (tie.spec
     (λ c κs. search needs)
-    (λ c κs. search needs)
-    (λ c κs. search needs)
     (λ c. search needs)
     (λ c. search needs)
     (λ c κs. search granted-inside)
     (λ c κs. search needs)
+    (λ c x k. search faulted)
     (λ c. search needs)
-    (λ c x k. search (faulted, reached))
-    (λ c. search needs)
-    (λ c x k. search (loaded, reached)))
+    (λ c x k. search loaded))

@@ -1,6 +1,6 @@
 use borrow.Author.Needs.{needs}
 use Rattle.machine.specs.Effect.{actingOf}
-use Rattle.execute.proofs.StepLaws.{compute-fits, load-fits, store-fits, masked-off, acted}
+use Rattle.execute.proofs.StepLaws.{compute-fits, load-fits, store-fits, masked-off, acted, loads-from, stores-to}
 use Rattle.execute.proofs.perform.Statement.{statement}
 use Rattle.execute.proofs.perform.Tie as tie
 
@@ -15,14 +15,19 @@ perform-spec =
     (λ c. search needs)
     (λ c κs. search compute-fits)
     (λ c. search needs)
+    (λ c κs. search needs)
+    (λ c κs. search needs)
     (λ c κs. search load-fits)
     (λ c. search needs)
+    (λ c κs. search needs)
+    (λ c κs. search needs)
+    (λ c κs. search needs)
     (λ c κs. search store-fits)
     (λ c. search needs)
     (λ c x k. search (acted, c .before .before .compute .ensures))
     (λ c. search needs)
     (λ c. search needs)
-    (λ c x k. search (acted, c .before .before .load .ensures))
+    (λ c x k. search (acted, loads-from, c .before .before .load .ensures))
     (λ c. search needs)
     (λ c. search needs)
-    (λ c x k. search (acted, c .before .before .store .ensures)))
+    (λ c x k. search (acted, stores-to, c .before .before .store .ensures)))

@@ -1,5 +1,5 @@
 use borrow.Author.Needs.{needs}
-use Rattle.execute.proofs.StepLaws.{reached, granted-inside, faulted, stored}
+use Rattle.execute.proofs.StepLaws.{granted-inside, faulted, stored}
 use Rattle.execute.proofs.store.Statement.{statement}
 use Rattle.execute.proofs.store.Tie as tie
 
@@ -8,12 +8,9 @@ store-spec =
     tie.close
     (tie.spec
     (λ c κs. search needs)
-    (λ c κs. search needs)
-    (λ c κs. search needs)
     (λ c. search needs)
     (λ c. search needs)
-    (λ c κs. search needs)
     (λ c κs. search granted-inside)
-    (λ c x k. search (faulted, reached))
+    (λ c vlenb file x k. search faulted)
     (λ c. search needs)
-    (λ c x k. search (stored, reached)))
+    (λ c vlenb file x k. search stored))
