@@ -20,7 +20,7 @@ use Rattle.access.specs.Access.{nowhere}
 use Rattle.plan.specs.declared.Elementwise.{Elementwise}
 use Rattle.plan.specs.declared.Plan.{Plan}
 use Rattle.plan.specs.declared.Plan.the-variants as P
-use Rattle.plan.specs.Legal.{startable, isThere, elementsLegal, legalOf}
+use Rattle.legality.specs.Legal.{startable, isThere, elementsLegal, legalOf}
 use Rattle.turn_theory.specs.Turn.{Effect, inactive, fault, write, faults, Semantics, Turn, Point, TurnEnd, apply, turn}
 use Rattle.turn_theory.specs.Claims.{Lawful}
 use Rattle.turn_theory.proofs.Laws.{Passed, passed-none, passed-more, passed-trap, passed-pause, passed-finish}

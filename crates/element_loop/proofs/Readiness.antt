@@ -41,7 +41,7 @@ use Rattle.plan.specs.declared.Elementwise.{Elementwise}
 use Rattle.plan.specs.declared.Plan.{Plan}
 use Rattle.plan.specs.declared.Plan.the-variants as P
 use Rattle.plan.specs.Plan.{groupAt, readAt, secondOf, shapedOf, computingOf, movingOf, byMode, planOf}
-use Rattle.plan.specs.Legal.{readFits, writesRegisters, operandsFit, isThere}
+use Rattle.legality.specs.Legal.{readFits, writesRegisters, operandsFit, isThere}
 use Rattle.plan.specs.Range.{ReadInRange, InRange, PlanFits}
 use Rattle.plan.proofs.AccessLaws.{one-of, eew-low}
 use Rattle.plan.proofs.RangeLaws.{plan-range, vs1-constant}

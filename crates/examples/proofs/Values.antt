@@ -14,7 +14,7 @@ use Rattle.decode.specs.Listing.{entryOf, find, listing}
 use Rattle.decode.specs.Word.{decodeOf, arithmeticOf, resolvedOf, sourceOf, settingOf, avlOf}
 use Rattle.group.specs.Group.{placedOf, emul8Of, mayOverlapOf, sparesV0}
 use Rattle.plan.specs.Plan.{readAt, secondOf, shapedOf, planOf}
-use Rattle.plan.specs.Legal.{readFits, operandsFit, elementsLegal, oneTurnLegal, legalOf}
+use Rattle.legality.specs.Legal.{readFits, operandsFit, elementsLegal, oneTurnLegal, legalOf}
 use Rattle.machine.specs.OneTurn.{settingResult, oneTurnResult}
 use Rattle.machine.specs.Machine.{turnOf, rejectionAt}
 use Rattle.examples.specs.Values.{addedAt, Values, Changes}

@@ -47,7 +47,7 @@ use Rattle.plan.specs.declared.OneTurn.the-variants as O
 use Rattle.plan.specs.declared.Plan.{Plan}
 use Rattle.plan.specs.declared.Plan.the-variants as P
 use Rattle.plan.specs.Plan.{shapedOf, byMode, planOf}
-use Rattle.plan.specs.Legal.{legalOf}
+use Rattle.legality.specs.Legal.{legalOf}
 use Rattle.turn_theory.specs.Turn.{Effect, inactive, fault, write, finished, paused, trapped, rejected, Semantics, Point, TurnEnd, Turn}
 use Rattle.turn_theory.specs.Turn.{turn, turns, Opening, NoneFinishes, finalRights, uncutRun}
 use Rattle.turn_theory.specs.Claims.{Lawful}

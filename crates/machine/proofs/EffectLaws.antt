@@ -22,7 +22,7 @@ use Rattle.plan.specs.declared.Read.the-variants as R
 use Rattle.plan.specs.declared.Action.{Action}
 use Rattle.plan.specs.declared.Action.the-variants as A
 use Rattle.plan.specs.declared.Elementwise.{Elementwise}
-use Rattle.plan.specs.Legal.{writesRegisters}
+use Rattle.legality.specs.Legal.{writesRegisters}
 use Rattle.turn_theory.specs.Turn.{Effect, inactive, fault, write, faults}
 use Rattle.machine.specs.State.{Core}
 use Rattle.machine.specs.Effect.{Write, toRegisters, toMemory, putOf, valueOf, activeOf, elementAddress, ifGranted, actingOf}

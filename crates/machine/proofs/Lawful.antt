@@ -25,7 +25,7 @@ use Rattle.plan.specs.declared.Elementwise.{Elementwise}
 use Rattle.plan.specs.declared.OneTurn.the-variants as O
 use Rattle.plan.specs.declared.Plan.{Plan}
 use Rattle.plan.specs.declared.Plan.the-variants as P
-use Rattle.plan.specs.Legal.{startable, operandsFit, isThere, elementsLegal, oneTurnLegal, legalOf}
+use Rattle.legality.specs.Legal.{startable, operandsFit, isThere, elementsLegal, oneTurnLegal, legalOf}
 use Rattle.turn_theory.specs.Turn.{write, faults, uncutAllowance}
 use Rattle.turn_theory.specs.Claims.{Lawful}
 use Rattle.machine.specs.State.{Core}

@@ -41,7 +41,7 @@ use Rattle.plan.proofs.AccessLaws.{one-of, eew-low, whole-le}
 use Rattle.plan.specs.declared.Plan.{Plan}
 use Rattle.plan.specs.declared.Plan.the-variants as P
 use Rattle.plan.specs.Plan.{groupAt, readAt, groupOf, secondOf, v0Read, shapedOf, computingOf, movingOf, byMode, planOf}
-use Rattle.plan.specs.Legal.{readFits, writesRegisters, isBit, operandsFit}
+use Rattle.legality.specs.Legal.{readFits, writesRegisters, isBit, operandsFit}
 use Rattle.machine.specs.Effect.{valueOf}
 use Rattle.machine.proofs.Geometry.{Power, power-of, product-power, quotient-power, quotient-low, sew-power, Extent, mask-extent}
 use Rattle.machine.proofs.Geometry.{placed-extent, extent, overlap-apart, v0-apart}

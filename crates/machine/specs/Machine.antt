@@ -19,7 +19,7 @@ use Rattle.refusal.specs.Refusal.{refusalOf}
 use Rattle.plan.specs.declared.Plan.{Plan}
 use Rattle.plan.specs.declared.Plan.the-variants as P
 use Rattle.plan.specs.Plan.{planOf}
-use Rattle.plan.specs.Legal.{legalOf}
+use Rattle.legality.specs.Legal.{legalOf}
 use Rattle.turn_theory.specs.Turn.{Effect, inactive, Ending, finished, paused, trapped, rejected, Semantics, TurnEnd, turn}
 use Rattle.machine.specs.State.{State, Outcome, Core, coreOf, stateOf}
 use Rattle.machine.specs.Effect.{Write, putOf, effectOf}

@@ -17,7 +17,7 @@ use Rattle.layout.specs.Layout.{withElement, Inside}
 use Rattle.layout.proofs.ElementLaws.{apart, length-withElement}
 use Rattle.machine.specs.Effect.{activeOf}
 use Rattle.machine.specs.OneTurn.{setAt, populationOf, firstOf, firstBit, settingFirst}
-use Rattle.plan.specs.Legal.{keepsV0}
+use Rattle.legality.specs.Legal.{keepsV0}
 
 -- ---- one bit
 

@@ -16,7 +16,7 @@ use Rattle.decode.specs.declared.MaskInstruction.{MaskInstruction}
 use Rattle.decode.specs.Fields.{SettingFits}
 use Rattle.plan.specs.declared.OneTurn.{OneTurn}
 use Rattle.plan.specs.declared.OneTurn.the-variants as O
-use Rattle.plan.specs.Legal.{startable, writesMask, keepsV0, maskApart, oneTurnLegal}
+use Rattle.legality.specs.Legal.{startable, writesMask, keepsV0, maskApart, oneTurnLegal}
 use Rattle.plan.specs.Range.{OneTurnFits}
 use Rattle.machine.specs.State.{Core}
 use Rattle.machine.specs.OneTurn.{withScalar, avlFrom, typeFrom, settingResult, maskResult, oneTurnResult}

@@ -19,7 +19,7 @@ ghost use Rattle.control.specs.Board.{Valid};
 ghost use Rattle.control.specs.Control.{withVstart, setOf};
 ghost use Rattle.decode.specs.Fields.{AvlFits, TypeFits, SettingFits, MaskFits};
 ghost use Rattle.layout.specs.Layout.{withElement};
-ghost use Rattle.plan.specs.Legal.{keepsV0, maskApart, oneTurnLegal};
+ghost use Rattle.legality.specs.Legal.{keepsV0, maskApart, oneTurnLegal};
 ghost use Rattle.plan.specs.Range.{OneTurnFits};
 ghost use Rattle.machine.specs.Effect.{activeOf};
 ghost use Rattle.machine.specs.OneTurn.{withScalar, avlFrom, typeFrom, setAt, populationOf, firstOf, firstBit, settingFirst, maskResult};

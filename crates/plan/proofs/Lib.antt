@@ -1,4 +1,4 @@
 pub mod OperandLaws
 pub mod AccessLaws
+pub mod PlanLaws
 pub mod RangeLaws
-pub mod LegalLaws

@@ -30,7 +30,7 @@ use Rattle.plan.specs.declared.OneTurn.{OneTurn}
 use Rattle.plan.specs.declared.Plan.{Plan}
 use Rattle.plan.specs.declared.Plan.the-variants as P
 use Rattle.plan.specs.Plan.{planOf}
-use Rattle.plan.specs.Legal.{oneTurnLegal, legalOf, checkedOf}
+use Rattle.legality.specs.Legal.{oneTurnLegal, legalOf, checkedOf}
 use Rattle.plan.specs.Range.{OneTurnFits, PlanFits}
 use Rattle.plan.proofs.RangeLaws.{plan-range}
 use Rattle.turn_theory.proofs.Laws.{turn-rejected, one-turn}

@@ -53,7 +53,7 @@ fn turn_on(
     if let Verdict::Refused(answer) = verdict {
         return answered(answer, control);
     }
-    match plan::checked(board, scalars, control, decode::decode(word)) {
+    match legality::checked(board, scalars, control, decode::decode(word)) {
         Plan::Illegal => answered(Answer::Illegal, control),
         Plan::OneTurn(t) => answered(
             Answer::Finished,

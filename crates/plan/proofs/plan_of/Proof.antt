@@ -1,6 +1,6 @@
 use borrow.Author.Needs.{needs}
 use Rattle.plan.specs.Plan.{planOf}
-use Rattle.plan.proofs.LegalLaws.{arithmetic-fits, access-fits, planned, arithmetic-planned, memory-planned}
+use Rattle.plan.proofs.PlanLaws.{arithmetic-fits, access-fits, planned, arithmetic-planned, memory-planned}
 use Rattle.plan.proofs.plan_of.Statement.{statement}
 use Rattle.plan.proofs.plan_of.Tie as tie
 

@@ -1,7 +1,7 @@
 use borrow.Author.Needs.{needs}
-use Rattle.plan.proofs.LegalLaws.{elements-legal-is}
-use Rattle.plan.proofs.elements_legal.Statement.{statement}
-use Rattle.plan.proofs.elements_legal.Tie as tie
+use Rattle.legality.proofs.LegalLaws.{elements-legal-is}
+use Rattle.legality.proofs.elements_legal.Statement.{statement}
+use Rattle.legality.proofs.elements_legal.Tie as tie
 
 pub elements-legal-spec : {M : Type 1} → statement M
 elements-legal-spec =

@@ -1,8 +1,8 @@
 use native.Mathlib.Omega.{arith}
 use borrow.Author.Needs.{needs}
 use Rattle.control.proofs.Laws.{sew-ge}
-use Rattle.plan.proofs.may_start.Statement.{statement}
-use Rattle.plan.proofs.may_start.Tie as tie
+use Rattle.legality.proofs.may_start.Statement.{statement}
+use Rattle.legality.proofs.may_start.Tie as tie
 
 pub may-start-spec : {M : Type 1} → statement M
 may-start-spec =

@@ -4,10 +4,10 @@ use mathlib.Core.Bool.{Bool, not, _&&_, _||_}
 use borrow.Author.Needs.{needs}
 use lib.Dec.{eqb}
 use Rattle.group.specs.Group.{placedOf, sparesV0}
 use Rattle.plan.specs.declared.Elementwise.{Elementwise}
-use Rattle.plan.specs.Legal.{readFits, writesRegisters, isBit, operandsFit}
-use Rattle.plan.proofs.operands_fit.Statement.{statement}
-use Rattle.plan.proofs.operands_fit.Tie as tie
+use Rattle.legality.specs.Legal.{readFits, writesRegisters, isBit, operandsFit}
+use Rattle.legality.proofs.operands_fit.Statement.{statement}
+use Rattle.legality.proofs.operands_fit.Tie as tie
 
 operands-are : (elen : ℕ) (e : Elementwise) (w placed vs2 vs1 vd bit spared : Bool)
     → w ≡ writesRegisters (e .action)

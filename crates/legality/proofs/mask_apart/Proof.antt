@@ -1,7 +1,7 @@
 use borrow.Author.Needs.{needs}
-use Rattle.plan.proofs.LegalLaws.{apart-is}
-use Rattle.plan.proofs.mask_apart.Statement.{statement}
-use Rattle.plan.proofs.mask_apart.Tie as tie
+use Rattle.legality.proofs.LegalLaws.{apart-is}
+use Rattle.legality.proofs.mask_apart.Statement.{statement}
+use Rattle.legality.proofs.mask_apart.Tie as tie
 
 pub mask-apart-spec : {M : Type 1} → statement M
 mask-apart-spec =

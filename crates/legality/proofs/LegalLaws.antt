@@ -1,52 +1,24 @@
 -- Legality, from what the code has worked out: one law for each way, over plain variables.
 use Prim.Native.Nat.{ℕ}
-use mathlib.Core.Path.{_≡_, refl, ap, _∙_, subst}
+use mathlib.Core.Path.{_≡_, refl, _∙_, subst}
 use mathlib.Core.Bool.{Bool, true, false, not, _&&_, _||_}
-use mathlib.Core.List.{List}
 use lib.Dec.{leb, eqb}
 use Rattle.laws.proofs.Chain.{case}
 use Rattle.operation.specs.Shape.{largestSew}
 use Rattle.control.specs.declared.Board.{Board}
 use Rattle.control.specs.declared.Control.{Control}
-use Rattle.decode.specs.declared.Arithmetic.{Arithmetic}
-use Rattle.decode.specs.declared.Access.{Access}
 use Rattle.decode.specs.declared.Setting.{Setting}
 use Rattle.decode.specs.declared.MaskInstruction.{MaskInstruction}
-use Rattle.decode.specs.declared.Instruction.{Instruction}
-use Rattle.decode.specs.declared.Instruction.the-variants as I
-use Rattle.decode.specs.Fields.{ArithmeticFits, AccessFits, Fits}
 use Rattle.plan.specs.declared.Action.{Action}
 use Rattle.plan.specs.declared.Action.the-variants as A
 use Rattle.plan.specs.declared.Compute.{Compute}
 use Rattle.plan.specs.declared.Elementwise.{Elementwise}
 use Rattle.plan.specs.declared.OneTurn.{OneTurn}
 use Rattle.plan.specs.declared.OneTurn.the-variants as O
 use Rattle.plan.specs.declared.Plan.{Plan}
 use Rattle.plan.specs.declared.Plan.the-variants as P
-use Rattle.plan.specs.Plan.{computingOf, transferringOf, planOf}
-use Rattle.plan.specs.Legal.{startable, operandsFit, isThere, elementsLegal, writesMask, maskApart, oneTurnLegal, legalOf, checkedOf}
+use Rattle.legality.specs.Legal.{startable, operandsFit, isThere, elementsLegal, writesMask, maskApart, oneTurnLegal, legalOf, checkedOf}
 use Rattle.plan.specs.Range.{InRange, PlanFits}
-
--- ---- the plan of a decoded word
-
-pub arithmetic-fits : (i : Instruction) (a : Arithmetic) → i ≡ I.Arithmetic a → Fits i → ArithmeticFits a
-arithmetic-fits i a e f = subst Fits e f
-
-pub access-fits : (i : Instruction) (a : Access) → i ≡ I.Memory a → Fits i → AccessFits a
-access-fits i a e f = subst Fits e f
-
-module _ (b : Board) (x : List ℕ) (c : Control) (i : Instruction) where
-  -- in the arm of the variant v
-  pub planned : (v : Instruction) (p : Plan) → i ≡ v → p ≡ planOf b x c v → p ≡ planOf b x c i
-  planned v p e h = case (planOf b x c) i v p e h
-
-  pub arithmetic-planned : (a : Arithmetic) (e : Elementwise) → i ≡ I.Arithmetic a → e ≡ computingOf x c a → P.Elements e ≡ planOf b x c i
-  unfolding planOf
-  arithmetic-planned a e q h = planned (I.Arithmetic a) (P.Elements e) q (ap P.Elements h)
-
-  pub memory-planned : (a : Access) (e : Elementwise) → i ≡ I.Memory a → e ≡ transferringOf b x c a → P.Elements e ≡ planOf b x c i
-  unfolding planOf
-  memory-planned a e q h = planned (I.Memory a) (P.Elements e) q (ap P.Elements h)
 
 -- ---- instructions of elements
 

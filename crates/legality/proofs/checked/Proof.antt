@@ -1,8 +1,8 @@
 use borrow.Author.Needs.{needs}
 use Rattle.plan.proofs.RangeLaws.{planned-range}
-use Rattle.plan.proofs.LegalLaws.{checked-legal, checked-illegal}
-use Rattle.plan.proofs.checked.Statement.{statement}
-use Rattle.plan.proofs.checked.Tie as tie
+use Rattle.legality.proofs.LegalLaws.{checked-legal, checked-illegal}
+use Rattle.legality.proofs.checked.Statement.{statement}
+use Rattle.legality.proofs.checked.Tie as tie
 
 pub checked-spec : {M : Type 1} → statement M
 checked-spec =

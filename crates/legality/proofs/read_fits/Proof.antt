@@ -5,12 +5,12 @@ use borrow.Author.Needs.{needs}
 use Rattle.laws.proofs.Chain.{case}
 use Rattle.group.specs.declared.Group.{Group}
 use Rattle.group.specs.Group.{maskGroup, placedOf, mayOverlapOf}
 use Rattle.plan.specs.declared.Read.{Read}
 use Rattle.plan.specs.declared.Read.the-variants as R
-use Rattle.plan.specs.Legal.{readFits}
+use Rattle.legality.specs.Legal.{readFits}
 use Rattle.plan.specs.Range.{ReadInRange}
-use Rattle.plan.proofs.read_fits.Statement.{statement}
-use Rattle.plan.proofs.read_fits.Tie as tie
+use Rattle.legality.proofs.read_fits.Statement.{statement}
+use Rattle.legality.proofs.read_fits.Tie as tie
 
 element-range : (r : Read) (g : Group) → r ≡ R.Element g → ReadInRange r → g .reg < 32
 element-range r g e h = subst ReadInRange e h

@@ -1,8 +1,8 @@
 use borrow.Author.Needs.{needs}
-use Rattle.plan.specs.Legal.{legalOf}
-use Rattle.plan.proofs.LegalLaws.{elements-range, legal-by}
-use Rattle.plan.proofs.legal.Statement.{statement}
-use Rattle.plan.proofs.legal.Tie as tie
+use Rattle.legality.specs.Legal.{legalOf}
+use Rattle.legality.proofs.LegalLaws.{elements-range, legal-by}
+use Rattle.legality.proofs.legal.Statement.{statement}
+use Rattle.legality.proofs.legal.Tie as tie
 
 pub legal-spec : {M : Type 1} → statement M
 unfolding legalOf

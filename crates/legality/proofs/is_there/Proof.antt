@@ -1,7 +1,7 @@
 use borrow.Author.Needs.{needs}
-use Rattle.plan.proofs.LegalLaws.{there-is}
-use Rattle.plan.proofs.is_there.Statement.{statement}
-use Rattle.plan.proofs.is_there.Tie as tie
+use Rattle.legality.proofs.LegalLaws.{there-is}
+use Rattle.legality.proofs.is_there.Statement.{statement}
+use Rattle.legality.proofs.is_there.Tie as tie
 
 pub is-there-spec : {M : Type 1} → statement M
 is-there-spec =

@@ -1,7 +1,7 @@
 use borrow.Author.Needs.{needs}
-use Rattle.plan.proofs.LegalLaws.{setting-legal, mask-legal}
-use Rattle.plan.proofs.one_turn_legal.Statement.{statement}
-use Rattle.plan.proofs.one_turn_legal.Tie as tie
+use Rattle.legality.proofs.LegalLaws.{setting-legal, mask-legal}
+use Rattle.legality.proofs.one_turn_legal.Statement.{statement}
+use Rattle.legality.proofs.one_turn_legal.Tie as tie
 
 pub one-turn-legal-spec : {M : Type 1} → statement M
 one-turn-legal-spec =

@@ -1,0 +1,159 @@
+// Whether a plan is legal: every rule of answer 2 that is not decode's.
+ghost use mathlib.Core.Path.{_≡_};
+ghost use Prim.Native.Nat.{_≤_, _<_};
+ghost use lib.ListN.{length};
+ghost use Rattle.control.specs.Board.{Valid};
+ghost use Rattle.control.specs.Vtype.{sewOf};
+ghost use Rattle.decode.specs.Fields.{Fits};
+ghost use Rattle.plan.specs.Plan.{planOf};
+ghost use Rattle.plan.specs.Range.{ReadInRange, InRange, PlanFits};
+ghost use Rattle.legality.specs.Legal.{startable, readFits, writesRegisters, isBit, operandsFit, isThere, elementsLegal};
+ghost use Rattle.legality.specs.Legal.{writesMask, maskApart, oneTurnLegal, legalOf, checkedOf};
+use control::Board;
+use control::Control;
+use decode::Instruction;
+use decode::MaskInstruction;
+use decode::MaskOp;
+use group::Group;
+use plan::Action;
+use plan::Elementwise;
+use plan::OneTurn;
+use plan::Plan;
+use plan::Read;
+
+// vill is clear, and vstart below 8 * VLEN / SEW.
+fn may_start(board: Board, control: Control) -> bool
+    requires { ⌜ Valid board ⌝ }
+    ensures { λ r. ⌜ r ≡ startable board control ⌝ }
+{
+    (control.vtype != 0x8000_0000_0000_0000)
+        & (control.vstart < 64 * board.vlenb / Control::sew(control.vtype))
+}
+
+// Whether an operand is legal beside a destination, where that is written.
+fn read_fits(elen: usize, writes: bool, dest: Group, read: Read) -> bool
+    requires { ⌜ (dest .reg < 32) × ReadInRange read ⌝ }
+    ensures { λ r. ⌜ r ≡ readFits elen writes dest read ⌝ }
+{
+    match read {
+        Read::Constant(_) => true,
+        Read::Element(g) => group::placed(elen, g) & (!writes | group::may_overlap(dest, g)),
+        Read::Bit(r) => !writes | group::may_overlap(dest, group::mask(r)),
+    }
+}
+
+fn writes_registers(action: Action) -> bool
+    ensures { λ r. ⌜ r ≡ writesRegisters action ⌝ }
+{
+    match action {
+        Action::Compute(_) => true,
+        Action::Load(_) => true,
+        Action::Store(_) => false,
+    }
+}
+
+fn is_bit(read: Read) -> bool
+    ensures { λ r. ⌜ r ≡ isBit read ⌝ }
+{
+    match read {
+        Read::Constant(_) => false,
+        Read::Element(_) => false,
+        Read::Bit(_) => true,
+    }
+}
+
+// Whether the operands and the destination are well placed and overlap only as they may.
+fn operands_fit(elen: usize, e: Elementwise) -> bool
+    requires { ⌜ InRange e ⌝ }
+    ensures { λ r. ⌜ r ≡ operandsFit elen e ⌝ }
+{
+    let dest = e.dest;
+    let vs2 = e.vs2;
+    let vs1 = e.vs1;
+    let vd = e.vd;
+    let v0 = e.v0;
+    let action = e.action;
+    let writes = writes_registers(action);
+    ((dest.eew == 1) | group::placed(elen, dest))
+        & (read_fits(elen, writes, dest, vs2)
+            & (read_fits(elen, writes, dest, vs1)
+                & (read_fits(elen, writes, dest, vd)
+                    & (!writes | group::spares_v0(e.masked | is_bit(v0), dest)))))
+}
+
+// Whether an operation is there at its SEW.
+fn is_there(action: Action) -> bool
+    ensures { λ r. ⌜ r ≡ isThere action ⌝ }
+{
+    match action {
+        Action::Compute(k) => {
+            let op = k.op;
+            k.sew <= operation::largest_sew(op)
+        }
+        Action::Load(_) => true,
+        Action::Store(_) => true,
+    }
+}
+
+fn elements_legal(board: Board, control: Control, e: Elementwise) -> bool
+    requires { ⌜ Valid board × InRange e ⌝ }
+    ensures { λ r. ⌜ r ≡ elementsLegal board control e ⌝ }
+{
+    let action = e.action;
+    (!e.typed | may_start(board, control))
+        & (is_there(action) & operands_fit(board.elen as usize, e))
+}
+
+fn writes_mask(op: MaskOp) -> bool
+    ensures { λ r. ⌜ r ≡ writesMask op ⌝ }
+{
+    match op {
+        MaskOp::Vcpop => false,
+        MaskOp::Vfirst => false,
+        MaskOp::Vmsbf => true,
+        MaskOp::Vmsof => true,
+        MaskOp::Vmsif => true,
+    }
+}
+
+// A mask that is written is neither the source nor the mask in v0.
+fn mask_apart(m: MaskInstruction) -> bool
+    ensures { λ r. ⌜ r ≡ maskApart m ⌝ }
+{
+    let op = m.op;
+    !writes_mask(op) | ((m.rd != m.vs2) & (!m.masked | (m.rd != 0)))
+}
+
+fn one_turn_legal(board: Board, control: Control, t: OneTurn) -> bool
+    requires { ⌜ Valid board ⌝ }
+    ensures { λ r. ⌜ r ≡ oneTurnLegal board control t ⌝ }
+{
+    match t {
+        OneTurn::Setting(_) => true,
+        OneTurn::Mask(m) => may_start(board, control) & ((control.vstart == 0) & mask_apart(m)),
+    }
+}
+
+// Whether a plan is legal.
+fn legal(board: Board, control: Control, plan: Plan) -> bool
+    requires { ⌜ Valid board × PlanFits plan ⌝ }
+    ensures { λ r. ⌜ r ≡ legalOf board control plan ⌝ }
+{
+    match plan {
+        Plan::Illegal => false,
+        Plan::OneTurn(t) => one_turn_legal(board, control, t),
+        Plan::Elements(e) => elements_legal(board, control, e),
+    }
+}
+
+// The plan of a decoded word where it is legal, and `Illegal` where not.
+pub fn checked(board: Board, x: &[u64], control: Control, instruction: Instruction) -> Plan
+    requires { ⌜ Valid board × ((length (now x) ≡ 32) × ((sewOf (control .vtype) ≤ 64) × ((control .vl ≤ 128) × Fits instruction))) ⌝ }
+    ensures { λ r. ⌜ r ≡ checkedOf board control (planOf board (now (x .entry)) control instruction) ⌝ }
+{
+    let plan = plan::plan_of(board, x, control, instruction);
+    if legal(board, control, plan) {
+        return plan;
+    }
+    Plan::Illegal
+}
