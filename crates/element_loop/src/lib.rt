@@ -40,7 +40,12 @@ fn ended(
 // What a turn gives that a fault stops.
 fn trapped(fault: Fault, passed: u64, c: Control, vstart: u64, vxsat: u64) -> Turned
     ensures { λ r. ⌜
-        r ≡ record { answer = fault .answer; passed = passed; place = fault .place; control = withVxsat (withVstart c vstart) vxsat } ⌝ }
+        r ≡ record {
+          answer = fault .answer;
+          passed = passed;
+          place = fault .place;
+          control = withVxsat (withVstart c vstart) vxsat;
+        } ⌝ }
 {
     let answer = fault.answer;
     let place = fault.place;

@@ -26,7 +26,8 @@ use Rattle.plan.specs.declared.Transfer.{Transfer}
 use Rattle.plan.specs.declared.Elementwise.{Elementwise}
 use Rattle.turn_theory.specs.Turn.{Effect, write}
 use Rattle.machine.specs.State.{Core}
-use Rattle.machine.specs.Effect.{Write, toRegisters, toMemory, valueOf, activeOf, elementAddress, ifGranted, loading, storing, actingOf, effectOf}
+use Rattle.machine.specs.Effect.{Write, toRegisters, toMemory, valueOf, activeOf}
+use Rattle.machine.specs.Effect.{elementAddress, ifGranted, loading, storing, actingOf, effectOf}
 use Rattle.execute.specs.declared.Step.{Step}
 use Rattle.execute.specs.declared.Step.the-variants as S
 use Rattle.execute.specs.Step.{ReadInside, OperandsFit, ActionFits, Did}

@@ -5,7 +5,8 @@ ghost use Prim.Native.Nat.{_+_, _*_, _%_, _<_, _≤_, _^_};
 ghost use lib.IntN.{pos};
 ghost use Rattle.width.specs.Width.{Width};
 ghost use Rattle.fixed.specs.Round.{vxrmOf, increment, roundoffUnsigned, roundoffSigned, clipUnsigned, clipSigned};
-ghost use Rattle.fixed.specs.Fixed.{vsaddu, vssubu, vsadd, vssub, vaaddu, vasubu, vaadd, vasub, vssrl, vssra, vnclipu, vnclip, vsmul};
+ghost use Rattle.fixed.specs.Fixed.{vsaddu, vssubu, vsadd, vssub, vaaddu, vasubu, vaadd, vasub};
+ghost use Rattle.fixed.specs.Fixed.{vssrl, vssra, vnclipu, vnclip, vsmul};
 
 // An element's result, and whether it saturated.
 pub struct Element {

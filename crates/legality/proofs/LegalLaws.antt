@@ -17,7 +17,8 @@ use Rattle.plan.specs.declared.OneTurn.{OneTurn}
 use Rattle.plan.specs.declared.OneTurn.the-variants as O
 use Rattle.plan.specs.declared.Plan.{Plan}
 use Rattle.plan.specs.declared.Plan.the-variants as P
-use Rattle.legality.specs.Legal.{startable, operandsFit, isThere, elementsLegal, writesMask, maskApart, oneTurnLegal, legalOf, checkedOf}
+use Rattle.legality.specs.Legal.{startable, operandsFit, isThere, elementsLegal}
+use Rattle.legality.specs.Legal.{writesMask, maskApart, oneTurnLegal, legalOf, checkedOf}
 use Rattle.plan.specs.Range.{InRange, PlanFits}
 
 -- ---- instructions of elements

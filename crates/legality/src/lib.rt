@@ -148,7 +148,9 @@ fn legal(board: Board, control: Control, plan: Plan) -> bool
 
 // The plan of a decoded word where it is legal, and `Illegal` where not.
 pub fn checked(board: Board, x: &[u64], control: Control, instruction: Instruction) -> Plan
-    requires { ⌜ Valid board × ((length (now x) ≡ 32) × ((sewOf (control .vtype) ≤ 64) × ((control .vl ≤ 128) × Fits instruction))) ⌝ }
+    requires { ⌜
+        Valid board
+        × ((length (now x) ≡ 32) × ((sewOf (control .vtype) ≤ 64) × ((control .vl ≤ 128) × Fits instruction))) ⌝ }
     ensures { λ r. ⌜ r ≡ checkedOf board control (planOf board (now (x .entry)) control instruction) ⌝ }
 {
     let plan = plan::plan_of(board, x, control, instruction);

@@ -121,7 +121,8 @@ fn first(registers: &[u8], vlenb: usize, m: MaskInstruction, vl: usize) -> usize
 fn first_or_ones(registers: &[u8], vlenb: usize, m: MaskInstruction, vl: usize) -> u64
     requires { ⌜ Holds (length (now registers)) vlenb vl m ⌝ }
     ensures { λ r. ⌜
-        r ≡ cond (ltb (firstOf vlenb (now (registers .entry)) m 0 vl) vl) (firstOf vlenb (now (registers .entry)) m 0 vl) (2 ^ 64 - 1) ⌝ }
+        r ≡ cond (ltb (firstOf vlenb (now (registers .entry)) m 0 vl) vl)
+        (firstOf vlenb (now (registers .entry)) m 0 vl) (2 ^ 64 - 1) ⌝ }
 {
     let f = first(registers, vlenb, m, vl);
     if f < vl {
@@ -162,7 +163,8 @@ fn set_first(registers: &mut [u8], vlenb: usize, m: MaskInstruction, vl: usize)
     requires { ⌜ Holds (length (now registers)) vlenb vl m × T (keepsV0 m) ⌝ }
     ensures { λ _. ⌜
         now (registers .exit)
-        ≡ settingFirst vlenb (now (registers .entry)) m (firstOf vlenb (now (registers .entry)) m 0 vl) 0 vl (now (registers .entry)) ⌝ }
+        ≡ settingFirst vlenb (now (registers .entry)) m
+        (firstOf vlenb (now (registers .entry)) m 0 vl) 0 vl (now (registers .entry)) ⌝ }
 {
     let f = first(registers, vlenb, m, vl);
     let mut i: usize = 0;

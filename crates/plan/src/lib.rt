@@ -342,7 +342,9 @@ fn transferring(board: Board, x: &[u64], control: Control, a: Access) -> Element
 
 // The plan of a decoded word.
 pub fn plan_of(board: Board, x: &[u64], control: Control, instruction: Instruction) -> Plan
-    requires { ⌜ Valid board × ((length (now x) ≡ 32) × ((sewOf (control .vtype) ≤ 64) × ((control .vl ≤ 128) × Fits instruction))) ⌝ }
+    requires { ⌜
+        Valid board
+        × ((length (now x) ≡ 32) × ((sewOf (control .vtype) ≤ 64) × ((control .vl ≤ 128) × Fits instruction))) ⌝ }
     ensures { λ r. ⌜ r ≡ planOf board (now (x .entry)) control instruction ⌝ }
 {
     match instruction {

@@ -245,7 +245,8 @@ fn print_registers(out: &mut [u8], at: usize, registers: &[u8]) -> usize
 // x10, x11, x12.
 fn print_scalars(out: &mut [u8], at: usize, scalars: &[u64]) -> usize
     requires { ⌜ (at ≤ 2 ^ 21) × (length (now scalars) ≡ 32) ⌝ }
-    ensures { λ r. ⌜ Wrote (now (out .entry)) at (scalarLines (now (scalars .entry))) (now (out .exit)) r × (r ≡ at + scalarsLength) ⌝ }
+    ensures { λ r. ⌜
+        Wrote (now (out .entry)) at (scalarLines (now (scalars .entry))) (now (out .exit)) r × (r ≡ at + scalarsLength) ⌝ }
 {
     let a = text::hex_line(out, at, b"x10=", 16, scalars[10]);
     let b = text::hex_line(out, a, b"x11=", 16, scalars[11]);
