@@ -23,7 +23,7 @@ sum-half rm w x y c i r e q =
     q ∙ rw (e, h, l)
 
 -- where an even multiple of the unit is taken off, rounding is the unsigned one
-round-diff : (rm : Vxrm) (n k d : ℕ) → roundoffSigned rm (subℕ n (2 * k * 2 ^ d)) d ≡ subℕ (roundoffUnsigned rm n d) (2 * k)
+pub round-diff : (rm : Vxrm) (n k d : ℕ) → roundoffSigned rm (subℕ n (2 * k * 2 ^ d)) d ≡ subℕ (roundoffUnsigned rm n d) (2 * k)
 unfolding roundoffSigned roundoffUnsigned
 round-diff rm n k d =
     let m : ℕ = 2 * k in

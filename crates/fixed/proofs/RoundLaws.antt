@@ -1,6 +1,6 @@
 -- Rounding: the rows of the table by the tests of the code, the increment's size, and the sums that the code makes.
 use mathlib.Core.Path.{_≡_, refl, sym, ap, ap₂, _∙_, subst⁻¹, subst₂}
-use mathlib.Core.Bool.{Bool, true, false, cond, not, _&&_, _||_}
+use mathlib.Core.Bool.{Bool, true, false, cond, not, _&&_, _||_, true≢false}
 use Prim.Native.Nat.{ℕ, zero, suc, _+_, _-_, _*_, _/_, _%_, _<_, _≤_, _^_}
 use native.Mathlib.Omega.{arith}
 use native.Mathlib.Nat.{mod-lt, div-one, add-zero, mod-eq-of-lt, mul-le-mul-left, div-mul-le-self, div-lt-iff-lt-mul, two-pow-succ}
@@ -43,25 +43,29 @@ module _ (rm : Vxrm) (d last lost u : ℕ) (some : d ≡ 0 → ⊥) (u-is : u �
   unfolding increment
   rne-lower r k = rw (positive, r, ← u-is, ne-eqb (lost % u) 0 k)
 
-  pub rne-odd : rm ≡ Rne → lost % u ≡ 0 → last ≡ 1 → lost / u ≡ increment rm d last lost
+  pub rne-odd : (t : Bool) → rm ≡ Rne → lost % u ≡ 0 → t ≡ eqb last 1 → t ≡ true → lost / u ≡ increment rm d last lost
   unfolding increment
-  rne-odd r k l = rw (positive, r, ← u-is, eq-eqb (lost % u) 0 k, l)
+  rne-odd t r k l e = rw (positive, r, ← u-is, eq-eqb (lost % u) 0 k, ← l, e)
 
-  pub rne-even : rm ≡ Rne → lost % u ≡ 0 → (last ≡ 1 → ⊥) → 0 ≡ increment rm d last lost
+  -- a lower lost bit makes the test hold, so this is never so
+  pub rne-none : (t : Bool) → (lost % u ≡ 0 → ⊥) → t ≡ not (eqb (lost % u) 0) → t ≡ false → 0 ≡ increment rm d last lost
+  rne-none t k l e = absurd (true≢false (ap not (sym (ne-eqb (lost % u) 0 k)) ∙ sym l ∙ e))
+
+  pub rne-even : (t : Bool) → rm ≡ Rne → lost % u ≡ 0 → t ≡ eqb last 1 → t ≡ false → 0 ≡ increment rm d last lost
   unfolding increment
-  rne-even r k l = rw (positive, r, ← u-is, eq-eqb (lost % u) 0 k, ne-eqb last 1 l)
+  rne-even t r k l e = rw (positive, r, ← u-is, eq-eqb (lost % u) 0 k, ← l, e)
 
   pub rdn : rm ≡ Rdn → 0 ≡ increment rm d last lost
   unfolding increment
   rdn r = rw (positive, r)
 
-  pub rod-none : rm ≡ Rod → last ≡ 0 → lost ≡ 0 → 0 ≡ increment rm d last lost
+  pub rod-none : rm ≡ Rod → last ≡ 0 → not (eqb lost 0) ≡ false → 0 ≡ increment rm d last lost
   unfolding increment
   rod-none r l k = rw (positive, r, l, k)
 
-  pub rod-some : rm ≡ Rod → last ≡ 0 → (lost ≡ 0 → ⊥) → 1 ≡ increment rm d last lost
+  pub rod-some : rm ≡ Rod → last ≡ 0 → not (eqb lost 0) ≡ true → 1 ≡ increment rm d last lost
   unfolding increment
-  rod-some r l k = rw (positive, r, l, ne-eqb lost 0 k)
+  rod-some r l k = rw (positive, r, l, k)
 
   pub rod-odd : rm ≡ Rod → (last ≡ 0 → ⊥) → 0 ≡ increment rm d last lost
   unfolding increment

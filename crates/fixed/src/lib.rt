@@ -190,28 +190,22 @@ pub fn increment_of(rm: Vxrm, d: u64, last: u64, lost: u64) -> u64
     requires { ⌜ d < 64 ⌝ }
     ensures { λ r. ⌜ r ≡ increment rm d last lost ⌝ }
 {
+    // d = 0 adds 0
     if d == 0 {
         return 0;
     }
     let half = power(d - 1);
     let highest = lost / half;
+    let lower = lost % half;
     match rm {
+        // 0, rnu: the highest lost bit
         Vxrm::Rnu => highest,
-        Vxrm::Rne => {
-            if lost % half != 0 {
-                highest
-            } else {
-                if last == 1 { highest } else { 0 }
-            }
-        }
+        // 1, rne: that bit if a lower lost bit or the last kept bit is 1, else 0
+        Vxrm::Rne => if lower != 0 || last == 1 { highest } else { 0 },
+        // 2, rdn: 0
         Vxrm::Rdn => 0,
-        Vxrm::Rod => {
-            if last == 0 {
-                if lost == 0 { 0 } else { 1 }
-            } else {
-                0
-            }
-        }
+        // 3, rod: 1 if the last kept bit is 0 and a lost bit is 1
+        Vxrm::Rod => if last == 0 && lost != 0 { 1 } else { 0 },
     }
 }
 

@@ -1,5 +1,6 @@
 use borrow.Author.Needs.{needs}
-use Rattle.fixed.proofs.RoundLaws.{unit-pos, none, rnu, rne-lower, rne-odd, rne-even, rdn, rod-none, rod-some, rod-odd}
+use mathlib.Core.Logic.{⊎-elim}
+use Rattle.fixed.proofs.RoundLaws.{unit-pos, none, rnu, rne-lower, rne-odd, rne-none, rne-even, rdn, rod-none, rod-some, rod-odd}
 use Rattle.fixed.proofs.increment_of.Statement.{statement}
 use Rattle.fixed.proofs.increment_of.Tie as tie
 
@@ -11,16 +12,14 @@ increment-of-spec =
     (λ c. search needs)
     (λ c κs. search needs)
     (λ c. search unit-pos)
-    (λ c. search needs)
-    (λ c. search needs)
     (λ c. search unit-pos)
     (λ c. search needs)
     (λ c. search needs)
+    (λ c. search needs)
+    (λ c. search needs)
     (λ c. search rnu)
-    (λ c. search rne-lower)
-    (λ c. search rne-odd)
-    (λ c. search rne-even)
+    (λ c. ⊎-elim (λ w. search rne-lower) (λ w. search rne-odd) (c .before .if2 .came))
+    (λ c. ⊎-elim (λ w. search rne-none) (λ w. search rne-even) (c .before .if2 .came))
     (λ c. search rdn)
-    (λ c. search rod-none)
     (λ c. search rod-some)
-    (λ c. search rod-odd))
+    (λ c. ⊎-elim (λ w. search rod-none) (λ w. search rod-odd) (c .if4 .came)))
