@@ -138,23 +138,26 @@ abs-to {z} {p} {n} {u} i h = go (absolute i)
     go (above k e) = (omega arith, omega arith)
     go (below k e) = (omega arith, omega arith)
 
--- ---- two integers that a statement allows are equal, where it allows no greater one beside one
+-- ---- a statement that holds of no two integers, of which the greater is more by g + 1, holds of one at most
 
-pub same : (P : ℤ → Type 0) → ((a b g : ℕ) → P (minus a b) → P (minus (a + suc g) b) → ⊥) → (x y : ℤ) → P x → P y → x ≡ y
-same P greater x y h l =
+abbrev pub NoTwo : (ℤ → Type 0) → Type 0
+NoTwo P = (a b g : ℕ) → P (minus a b) → P (minus (a + suc g) b) → ⊥
+
+pub same : (P : ℤ → Type 0) → NoTwo P → (x y : ℤ) → P x → P y → x ≡ y
+same P no-two x y h l =
     let i : IsDiff x = is-diff x in
     let j : IsDiff y = is-diff y in
     go (i .p) (i .n) (j .p) (j .n) (record { is = i .is }) (record { is = j .is })
   where
-    less-none : {x y : ℤ} (a b s t : ℕ) → Is x a b → Is y s t → P x → P y → a + t < s + b → ⊥
-    less-none a b s t i j h l k =
+    not-less-than : {x y : ℤ} (a b s t : ℕ) → Is x a b → Is y s t → P x → P y → a + t < s + b → ⊥
+    not-less-than a b s t i j h l k =
         let g : ℕ = s + b - suc (a + t) in
-        greater a b g (subst P (is-minus i) h) (subst P (eq-of j (minus-is (a + suc g) b) (omega arith)) l)
+        no-two a b g (subst P (is-minus i) h) (subst P (eq-of j (minus-is (a + suc g) b) (omega arith)) l)
 
     go : (a b s t : ℕ) → Is x a b → Is y s t → x ≡ y
     go a b s t i j = by (decLe (s + b) (a + t)) (decLe (a + t) (s + b))
       where
         by : Dec (s + b ≤ a + t) → Dec (a + t ≤ s + b) → x ≡ y
         by (yes f) (yes g) = eq-of i j (omega arith)
-        by (no f) g = absurd (less-none a b s t i j h l (lt-of-not-le f))
-        by (yes f) (no g) = absurd (less-none s t a b j i l h (lt-of-not-le g))
+        by (no f) g = absurd (not-less-than a b s t i j h l (lt-of-not-le f))
+        by (yes f) (no g) = absurd (not-less-than s t a b j i l h (lt-of-not-le g))

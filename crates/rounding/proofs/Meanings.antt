@@ -12,12 +12,12 @@ use Rattle.fixed.specs.declared.Vxrm.the-variants.{Rnu, Rne, Rdn, Rod}
 use Rattle.fixed.specs.Round.{increment, roundoffUnsigned, roundoffSigned}
 use Rattle.fixed.proofs.AverageLaws.{round-diff}
 use Rattle.rounding.specs.Rounding.{Meaning, OnlyOf, Rounding}
-use Rattle.rounding.proofs.Integers.{Is, minus, is-minus, pos-is}
-use Rattle.rounding.proofs.Rows.{rows, only}
+use Rattle.rounding.proofs.Integers.{Is, minus, is-minus, pos-is, NoTwo, same}
+use Rattle.rounding.proofs.Rows.{rows, once}
 use Rattle.rounding.proofs.Increments.{RnuAdds, RneAdds, RodAdds, under-half, from-half, below, above, tie-even, tie-odd}
 use Rattle.rounding.proofs.Increments.{whole, kept-odd, made-odd, rnu-adds, rne-adds, rdn-adds, rod-adds}
 
--- v is c * 2 ^ d + lost, and q is c and the increment; of both an even multiple is taken away, of 2 ^ d and of 1
+-- v is c * 2 ^ d + lost less an even multiple of 2 ^ d, and q is c and the increment less that even number
 module _ (d c lost k : ℕ) (fits : lost < 2 ^ d) where
   abbrev value : ℤ
   value = minus (c * 2 ^ d + lost) (2 * k * 2 ^ d)
@@ -46,23 +46,28 @@ module _ (d c lost k : ℕ) (fits : lost < 2 ^ d) where
   result-means Rdn = rdn (rdn-adds d (c % 2) lost)
   result-means Rod = rod (rod-adds d (c % 2) lost (omega arith) fits)
 
-unique : (rm : Vxrm) (d p n : ℕ) (x y : ℤ) → Meaning rm (minus p n) d x → Meaning rm (minus p n) d y → x ≡ y
-unique Rnu d p n x y h l = search only
-unique Rne d p n x y h l = search only
-unique Rdn d p n x y h l = search only
-unique Rod d p n x y h l = search only
+no-two : (rm : Vxrm) (d p n : ℕ) → NoTwo (Meaning rm (minus p n) d)
+no-two Rnu d p n a b g h l = search once
+no-two Rne d p n a b g h l = search once
+no-two Rdn d p n a b g h l = search once
+no-two Rod d p n a b g h l = search once
 
 -- what the unsigned and the signed roundoff share: n is v, and an even multiple of 2 ^ d more
 only-of : (rm : Vxrm) (d n k : ℕ) (v q : ℤ) → Is v n (2 * k * 2 ^ d) → Is q (roundoffUnsigned rm n d) (2 * k) → OnlyOf (Meaning rm v d) q
 unfolding roundoffUnsigned
-only-of rm d n k v q i j =
-    rw (is-minus i, is-minus j) (record { holds = holds; unique = λ x h. unique rm d n (2 * k * 2 ^ d) x result h holds })
+only-of rm d n k v q i j = rw (is-minus i, is-minus j) (record { holds = holds; unique = unique })
   where
-    result : ℤ
-    result = minus (roundoffUnsigned rm n d) (2 * k)
+    v′ : ℤ
+    v′ = minus n (2 * k * 2 ^ d)
 
-    holds : Meaning rm (minus n (2 * k * 2 ^ d)) d result
+    q′ : ℤ
+    q′ = minus (roundoffUnsigned rm n d) (2 * k)
+
+    holds : Meaning rm v′ d q′
     holds = rw (div-add-mod' n (2 ^ d)) at (result-means d (n / 2 ^ d) (n % 2 ^ d) k (mod-lt n (pow-pos d)) rm)
+
+    unique : (x : ℤ) → Meaning rm v′ d x → x ≡ q′
+    unique x h = same (Meaning rm v′ d) (no-two rm d n (2 * k * 2 ^ d)) x q′ h holds
 
 -- an integer, and an even multiple of u that makes it a natural number
 record Raised (v : ℤ) (u : ℕ) : Type 0 where

@@ -1,16 +1,16 @@
--- The rows of the table as facts about naturals, which omega proves and reads, where v is p − n and q is a − b; and that each row allows
--- one integer.
+-- The rows of the table as facts about naturals, which omega proves and reads, where v is p − n and q is a − b; and that no row
+-- holds of two integers.
 use mathlib.Core.Path.{_≡_, sym, _∙_}
 use mathlib.Core.Logic.{inl, inr, ⊎-elim, _↔_}
 use Prim.Native.Nat.{ℕ, zero, suc, _+_, _*_, _%_, _<_, _≤_, _^_}
 use native.Mathlib.Nat.{lt-of-not-le}
 use native.Mathlib.Decide.{decLe}
 use native.Mathlib.Omega.{arith}
-use lib.IntN.{ℤ, pos, _+ℤ_, _-ℤ_, _*ℤ_}
+use lib.IntN.{pos, _+ℤ_, _-ℤ_, _*ℤ_}
 use lib.Pow.{pow-pos}
 use Rattle.rounding.specs.Rounding.{NearestTiesUp, NearestTiesEven, Down, WholeOrOdd}
 use Rattle.rounding.proofs.Integers.{Is, minus, minus-is, pos-is, neg-is, add-is, sub-is, mul-is, twice-is}
-use Rattle.rounding.proofs.Integers.{le-of, lt-of, le-to, lt-to, eq-of, eq-to, parity, abs-of, abs-to, same}
+use Rattle.rounding.proofs.Integers.{le-of, lt-of, le-to, lt-to, eq-of, eq-to, parity, abs-of, abs-to, NoTwo}
 
 divisor-is : (d : ℕ) → Is (pos (2 ^ d)) (2 ^ d) 0
 divisor-is d = pos-is (2 ^ d)
@@ -128,39 +128,27 @@ module _ (d p n a b : ℕ) where
 
 pub ruleset rows = (up, even, down, odd)
 
--- ---- a row allows one integer: of two, the greater one, by g + 1, would be too far off
+-- ---- a row does not hold of two integers: the greater would be too far off
 
 module _ (d p n : ℕ) where
-  up-greater : (a b g : ℕ) → NearestTiesUp (minus p n) d (minus a b) → NearestTiesUp (minus p n) d (minus (a + suc g) b) → ⊥
-  up-greater a b g h l = omega (arith, simp rows at h, simp rows at l)
+  pub up-once : NoTwo (NearestTiesUp (minus p n) d)
+  up-once a b g h l = omega (arith, simp rows at h, simp rows at l)
 
-  even-greater : (a b g : ℕ) → NearestTiesEven (minus p n) d (minus a b) → NearestTiesEven (minus p n) d (minus (a + suc g) b) → ⊥
-  even-greater a b zero h l =
+  pub even-once : NoTwo (NearestTiesEven (minus p n) d)
+  even-once a b zero h l =
       let x = simp rows at h in
       let y = simp rows at l in
       omega (arith, x .1 .1 .1 (omega arith), y .1 .1 .0 (omega arith))
-  even-greater a b (suc g) h l = omega (arith, simp rows at h, simp rows at l, pow-pos d)
+  even-once a b (suc g) h l = omega (arith, simp rows at h, simp rows at l, pow-pos d)
 
-  down-greater : (a b g : ℕ) → Down (minus p n) d (minus a b) → Down (minus p n) d (minus (a + suc g) b) → ⊥
-  down-greater a b g h l = omega (arith, simp rows at h, simp rows at l)
+  pub down-once : NoTwo (Down (minus p n) d)
+  down-once a b g h l = omega (arith, simp rows at h, simp rows at l)
 
-  odd-greater : (a b g : ℕ) → WholeOrOdd (minus p n) d (minus a b) → WholeOrOdd (minus p n) d (minus (a + suc g) b) → ⊥
-  odd-greater a b zero h l =
+  pub odd-once : NoTwo (WholeOrOdd (minus p n) d)
+  odd-once a b zero h l =
       let x = simp rows at h in
       let y = simp rows at l in
       omega (arith, x .1 .1 .0 (omega arith), y .1 .1 .1 (omega arith))
-  odd-greater a b (suc g) h l = omega (arith, simp rows at h, simp rows at l)
+  odd-once a b (suc g) h l = omega (arith, simp rows at h, simp rows at l)
 
-  pub up-only : (x y : ℤ) → NearestTiesUp (minus p n) d x → NearestTiesUp (minus p n) d y → x ≡ y
-  up-only = same (NearestTiesUp (minus p n) d) up-greater
-
-  pub even-only : (x y : ℤ) → NearestTiesEven (minus p n) d x → NearestTiesEven (minus p n) d y → x ≡ y
-  even-only = same (NearestTiesEven (minus p n) d) even-greater
-
-  pub down-only : (x y : ℤ) → Down (minus p n) d x → Down (minus p n) d y → x ≡ y
-  down-only = same (Down (minus p n) d) down-greater
-
-  pub odd-only : (x y : ℤ) → WholeOrOdd (minus p n) d x → WholeOrOdd (minus p n) d y → x ≡ y
-  odd-only = same (WholeOrOdd (minus p n) d) odd-greater
-
-pub ruleset only = (up-only, even-only, down-only, odd-only)
+pub ruleset once = (up-once, even-once, down-once, odd-once)

@@ -26,23 +26,24 @@ module _ (v : ℤ) (d : ℕ) (q : ℤ) where
   abbrev pub error : ℤ
   error = v -ℤ q *ℤ divisor
 
-  -- "the nearest, ties up": −2^d ≤ 2 * (v − q * 2^d) < 2^d. At a tie the error is −2^d / 2, so q is the upper neighbour: −5 by 1 bit is −2
+  -- rnu, round-to-nearest-up, "the nearest, ties up": −2^d ≤ 2 * (v − q * 2^d) < 2^d. At a tie the error is −2^d / 2, so that q lies
+  -- above v / 2^d, toward plus infinity: −5 by 1 bit is −2
   pub record NearestTiesUp : Type 0 where
     pub lower : negℤ divisor ≤ℤ (pos 2 *ℤ error)
     pub upper : (pos 2 *ℤ error) <ℤ divisor
 
-  -- "the nearest, ties to even": −2^d ≤ 2 * (v − q * 2^d) ≤ 2^d, and at either equality q is even
+  -- rne, round-to-nearest-even, "the nearest, ties to even": −2^d ≤ 2 * (v − q * 2^d) ≤ 2^d, and at either equality q is even
   pub record NearestTiesEven : Type 0 where
     pub lower : negℤ divisor ≤ℤ (pos 2 *ℤ error)
     pub upper : (pos 2 *ℤ error) ≤ℤ divisor
     pub ties : (pos 2 *ℤ error ≡ negℤ divisor) ⊎ (pos 2 *ℤ error ≡ divisor) → Even q
 
-  -- "the quotient by 2^d rounded down": q * 2^d ≤ v < (q + 1) * 2^d
+  -- rdn, round-down, "the quotient by 2^d rounded down": q * 2^d ≤ v < (q + 1) * 2^d
   pub record Down : Type 0 where
     pub lower : (q *ℤ divisor) ≤ℤ v
     pub upper : v <ℤ ((q +ℤ pos 1) *ℤ divisor)
 
-  -- "the quotient if whole, else the odd one of its two neighbours": v = q * 2^d, or q is odd and |v − q * 2^d| < 2^d
+  -- rod, round-to-odd, "the quotient if whole, else the odd one of its two neighbours": v = q * 2^d, or q is odd and |v − q * 2^d| < 2^d
   abbrev pub WholeOrOdd : Type 0
   WholeOrOdd = (v ≡ q *ℤ divisor) ⊎ (Odd q × (natAbs error < 2 ^ d))
 
