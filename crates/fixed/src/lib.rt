@@ -194,6 +194,7 @@ pub fn increment_of(rm: Vxrm, d: u64, last: u64, lost: u64) -> u64
     if d == 0 {
         return 0;
     }
+    // 2^(d - 1) is the weight of the highest lost bit: the quotient by it is that bit, the remainder the lower ones
     let half = power(d - 1);
     let highest = lost / half;
     let lower = lost % half;

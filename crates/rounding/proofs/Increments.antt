@@ -1,12 +1,13 @@
 -- The increments of the table by the size of what is lost: twice the lost part beside unit, which is 2 ^ d. last is the last kept bit.
 use mathlib.Core.Path.{_≡_, refl, ap}
-use mathlib.Core.Bool.{Bool, true, false, cond, not, _||_}
+use mathlib.Core.Bool.{Bool, cond, not, _||_}
 use Prim.Native.Nat.{ℕ, zero, suc, _+_, _*_, _/_, _%_, _<_, _≤_, _^_}
 use native.Mathlib.Nat.{lt-of-not-le, div-add-mod', div-eq-of-lt, div-eq-of-lt-le}
 use native.Mathlib.Decide.{decLe}
 use native.Mathlib.Omega.{arith}
 use lib.Dec.{eqb}
 use borrow.Author.Tests.{eq-eqb, ne-eqb}
+use Rattle.laws.proofs.Chain.{either}
 use Rattle.fixed.specs.declared.Vxrm.the-variants.{Rnu, Rne, Rdn, Rod}
 use Rattle.fixed.specs.Round.{increment}
 
@@ -42,17 +43,16 @@ rnu-adds (suc e) last lost fits = go (decLe (2 ^ e) lost)
     go (yes h) = rw (highest e lost fits h) (from-half (omega arith))
     go (no f) = let h : lost < 2 ^ e = lt-of-not-le f in rw (div-eq-of-lt h) (under-half (omega arith))
 
-either-zero : (t : Bool) → _≡_ {A = ℕ} (cond t 0 0) 0
-either-zero true = refl
-either-zero false = refl
-
 pub rne-adds : (d last lost : ℕ) → last < 2 → lost < 2 ^ d → RneAdds (2 ^ d) last lost (increment Rne d last lost)
 unfolding increment
 rne-adds zero last lost bit fits = below (omega arith)
 rne-adds (suc e) last lost bit fits = go (decLe (2 ^ e) lost)
   where
+    test : Bool
+    test = not (eqb (lost % 2 ^ e) 0) || eqb last 1
+
     value : ℕ
-    value = cond (not (eqb (lost % 2 ^ e) 0) || eqb last 1) (lost / 2 ^ e) 0
+    value = cond test (lost / 2 ^ e) 0
 
     tie : 2 * lost ≡ 2 ^ suc e → 2 ^ e ≤ lost → Dec (last ≤ 0) → RneAdds (2 ^ suc e) last lost value
     tie l h (yes k) =
@@ -72,7 +72,8 @@ rne-adds (suc e) last lost bit fits = go (decLe (2 ^ e) lost)
     go (yes h) = from-half-up h (decLe lost (2 ^ e))
     go (no f) =
         let h : lost < 2 ^ e = lt-of-not-le f in
-        rw (div-eq-of-lt h, either-zero (not (eqb (lost % 2 ^ e) 0) || eqb last 1)) (below (omega arith))
+        let l : 2 * lost < 2 ^ suc e = omega arith in
+        rw (div-eq-of-lt h) (either (RneAdds (2 ^ suc e) last lost) test 0 0 (λ t. below l) (λ t. below l))
 
 pub rdn-adds : (d last lost : ℕ) → increment Rdn d last lost ≡ 0
 unfolding increment

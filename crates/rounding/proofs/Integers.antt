@@ -15,16 +15,16 @@ pub record Is (z : ℤ) (p n : ℕ) : Type 0 where
   pub is : z ≡ subℕ p n
 
 -- p − n under a name that stays shut, so that p and n can be read off a statement
-unfoldable pub minus : ℕ → ℕ → ℤ
-minus p n = subℕ p n
+unfoldable pub difference : ℕ → ℕ → ℤ
+difference p n = subℕ p n
 
-pub minus-is : (p n : ℕ) → Is (minus p n) p n
-unfolding minus
-minus-is p n = record { is = refl }
+pub difference-is : (p n : ℕ) → Is (difference p n) p n
+unfolding difference
+difference-is p n = record { is = refl }
 
-pub is-minus : {z : ℤ} {p n : ℕ} → Is z p n → z ≡ minus p n
-unfolding minus
-is-minus i = i .is
+pub is-difference : {z : ℤ} {p n : ℕ} → Is z p n → z ≡ difference p n
+unfolding difference
+is-difference i = i .is
 
 pub pos-is : (k : ℕ) → Is (pos k) k 0
 pos-is k = record { is = pos-diff k }
@@ -60,11 +60,11 @@ twice-is {z} i = record { is = *ℤ-comm (pos 2) z ∙ mul-is 2 i .is }
 
 -- ---- order and equality, both ways
 
-passed : (t : Bool) → t ≡ true → T t
-passed t e = subst⁻¹ T e tt
+test-holds : (t : Bool) → t ≡ true → T t
+test-holds t e = subst⁻¹ T e tt
 
-failed : (t : Bool) → t ≡ false → T t → ⊥
-failed t e h = subst T e h
+test-fails : (t : Bool) → t ≡ false → T t → ⊥
+test-fails t e h = subst T e h
 
 less : {x y : ℤ} {p n q m : ℕ} → Is x p n → Is y q m → p + m < q + n → ltZ x y ≡ true
 less {p = p} {n = n} {q = q} {m = m} i j h = ap₂ ltZ (i .is) (j .is) ∙ lt-diff p n q m h
@@ -73,23 +73,23 @@ not-less : {x y : ℤ} {p n q m : ℕ} → Is x p n → Is y q m → q + n ≤ p
 not-less {p = p} {n = n} {q = q} {m = m} i j h = ap₂ ltZ (i .is) (j .is) ∙ nlt-diff p n q m h
 
 pub le-of : {x y : ℤ} {p n q m : ℕ} → Is x p n → Is y q m → p + m ≤ q + n → x ≤ℤ y
-le-of {x} {y} i j h = record { le = passed (leZ x y) (leZ-is x y ∙ ap not (not-less j i h)) }
+le-of {x} {y} i j h = record { le = test-holds (leZ x y) (leZ-is x y ∙ ap not (not-less j i h)) }
 
 pub lt-of : {x y : ℤ} {p n q m : ℕ} → Is x p n → Is y q m → p + m < q + n → x <ℤ y
-lt-of {x} {y} i j h = record { lt = passed (ltZ x y) (less i j h) }
+lt-of {x} {y} i j h = record { lt = test-holds (ltZ x y) (less i j h) }
 
 pub le-to : {x y : ℤ} {p n q m : ℕ} → Is x p n → Is y q m → x ≤ℤ y → p + m ≤ q + n
 le-to {x} {y} {p} {n} {q} {m} i j h = go (decLe (p + m) (q + n))
   where
     go : Dec (p + m ≤ q + n) → p + m ≤ q + n
     go (yes l) = l
-    go (no f) = absurd (failed (leZ x y) (leZ-is x y ∙ ap not (less j i (lt-of-not-le f))) (h .le))
+    go (no f) = absurd (test-fails (leZ x y) (leZ-is x y ∙ ap not (less j i (lt-of-not-le f))) (h .le))
 
 pub lt-to : {x y : ℤ} {p n q m : ℕ} → Is x p n → Is y q m → x <ℤ y → p + m < q + n
 lt-to {x} {y} {p} {n} {q} {m} i j h = go (decLe (q + n) (p + m))
   where
     go : Dec (q + n ≤ p + m) → p + m < q + n
-    go (yes l) = absurd (failed (ltZ x y) (not-less i j l) (h .lt))
+    go (yes l) = absurd (test-fails (ltZ x y) (not-less i j l) (h .lt))
     go (no f) = lt-of-not-le f
 
 pub eq-of : {x y : ℤ} {p n q m : ℕ} → Is x p n → Is y q m → p + m ≡ q + n → x ≡ y
@@ -103,7 +103,7 @@ eq-to {x} {y} {p} {n} {q} {m} i j e =
 
 -- ---- the absolute value
 
-pub data Absolute (a p n : ℕ) : Type 0 where
+data Absolute (a p n : ℕ) : Type 0 where
   above : n ≤ p → p ≡ n + a → Absolute a p n
   below : p < n → n ≡ p + a → Absolute a p n
 
@@ -141,7 +141,7 @@ abs-to {z} {p} {n} {u} i h = go (absolute i)
 -- ---- a statement that holds of no two integers, of which the greater is more by g + 1, holds of one at most
 
 abbrev pub NoTwo : (ℤ → Type 0) → Type 0
-NoTwo P = (a b g : ℕ) → P (minus a b) → P (minus (a + suc g) b) → ⊥
+NoTwo P = (a b g : ℕ) → P (difference a b) → P (difference (a + suc g) b) → ⊥
 
 pub same : (P : ℤ → Type 0) → NoTwo P → (x y : ℤ) → P x → P y → x ≡ y
 same P no-two x y h l =
@@ -152,7 +152,7 @@ same P no-two x y h l =
     not-less-than : {x y : ℤ} (a b s t : ℕ) → Is x a b → Is y s t → P x → P y → a + t < s + b → ⊥
     not-less-than a b s t i j h l k =
         let g : ℕ = s + b - suc (a + t) in
-        no-two a b g (subst P (is-minus i) h) (subst P (eq-of j (minus-is (a + suc g) b) (omega arith)) l)
+        no-two a b g (subst P (is-difference i) h) (subst P (eq-of j (difference-is (a + suc g) b) (omega arith)) l)
 
     go : (a b s t : ℕ) → Is x a b → Is y s t → x ≡ y
     go a b s t i j = by (decLe (s + b) (a + t)) (decLe (a + t) (s + b))

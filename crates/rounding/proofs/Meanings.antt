@@ -12,7 +12,7 @@ use Rattle.fixed.specs.declared.Vxrm.the-variants.{Rnu, Rne, Rdn, Rod}
 use Rattle.fixed.specs.Round.{increment, roundoffUnsigned, roundoffSigned}
 use Rattle.fixed.proofs.AverageLaws.{round-diff}
 use Rattle.rounding.specs.Rounding.{Meaning, OnlyOf, Rounding}
-use Rattle.rounding.proofs.Integers.{Is, minus, is-minus, pos-is, NoTwo, same}
+use Rattle.rounding.proofs.Integers.{Is, difference, is-difference, pos-is, NoTwo, same}
 use Rattle.rounding.proofs.Rows.{rows, once}
 use Rattle.rounding.proofs.Increments.{RnuAdds, RneAdds, RodAdds, under-half, from-half, below, above, tie-even, tie-odd}
 use Rattle.rounding.proofs.Increments.{whole, kept-odd, made-odd, rnu-adds, rne-adds, rdn-adds, rod-adds}
@@ -20,33 +20,33 @@ use Rattle.rounding.proofs.Increments.{whole, kept-odd, made-odd, rnu-a
 -- v is c * 2 ^ d + lost less an even multiple of 2 ^ d, and q is c and the increment less that even number
 module _ (d c lost k : ℕ) (fits : lost < 2 ^ d) where
   abbrev value : ℤ
-  value = minus (c * 2 ^ d + lost) (2 * k * 2 ^ d)
+  value = difference (c * 2 ^ d + lost) (2 * k * 2 ^ d)
 
-  rnu : {x : ℕ} → RnuAdds (2 ^ d) lost x → Meaning Rnu value d (minus (c + x) (2 * k))
+  rnu : {x : ℕ} → RnuAdds (2 ^ d) lost x → Meaning Rnu value d (difference (c + x) (2 * k))
   rnu (under-half l) = simp rows (omega arith)
   rnu (from-half l) = simp rows (omega arith)
 
-  rne : {x : ℕ} → RneAdds (2 ^ d) (c % 2) lost x → Meaning Rne value d (minus (c + x) (2 * k))
+  rne : {x : ℕ} → RneAdds (2 ^ d) (c % 2) lost x → Meaning Rne value d (difference (c + x) (2 * k))
   rne (below l) = simp rows (omega arith)
   rne (above l) = simp rows (omega arith)
   rne (tie-even l p) = simp rows (omega arith)
   rne (tie-odd l p) = simp rows (omega arith)
 
-  rdn : {x : ℕ} → x ≡ 0 → Meaning Rdn value d (minus (c + x) (2 * k))
+  rdn : {x : ℕ} → x ≡ 0 → Meaning Rdn value d (difference (c + x) (2 * k))
   rdn e = rw e (simp rows (omega arith))
 
-  rod : {x : ℕ} → RodAdds (c % 2) lost x → Meaning Rod value d (minus (c + x) (2 * k))
+  rod : {x : ℕ} → RodAdds (c % 2) lost x → Meaning Rod value d (difference (c + x) (2 * k))
   rod (whole l) = simp rows (omega arith)
   rod (kept-odd p) = simp rows (omega arith)
   rod (made-odd p l) = simp rows (omega arith)
 
-  result-means : (rm : Vxrm) → Meaning rm value d (minus (c + increment rm d (c % 2) lost) (2 * k))
+  result-means : (rm : Vxrm) → Meaning rm value d (difference (c + increment rm d (c % 2) lost) (2 * k))
   result-means Rnu = rnu (rnu-adds d (c % 2) lost fits)
   result-means Rne = rne (rne-adds d (c % 2) lost (omega arith) fits)
   result-means Rdn = rdn (rdn-adds d (c % 2) lost)
   result-means Rod = rod (rod-adds d (c % 2) lost (omega arith) fits)
 
-no-two : (rm : Vxrm) (d p n : ℕ) → NoTwo (Meaning rm (minus p n) d)
+no-two : (rm : Vxrm) (d p n : ℕ) → NoTwo (Meaning rm (difference p n) d)
 no-two Rnu d p n a b g h l = search once
 no-two Rne d p n a b g h l = search once
 no-two Rdn d p n a b g h l = search once
@@ -55,13 +55,13 @@ no-two Rod d p n a b g h l = search once
 -- what the unsigned and the signed roundoff share: n is v, and an even multiple of 2 ^ d more
 only-of : (rm : Vxrm) (d n k : ℕ) (v q : ℤ) → Is v n (2 * k * 2 ^ d) → Is q (roundoffUnsigned rm n d) (2 * k) → OnlyOf (Meaning rm v d) q
 unfolding roundoffUnsigned
-only-of rm d n k v q i j = rw (is-minus i, is-minus j) (record { holds = holds; unique = unique })
+only-of rm d n k v q i j = rw (is-difference i, is-difference j) (record { holds = holds; unique = unique })
   where
     v′ : ℤ
-    v′ = minus n (2 * k * 2 ^ d)
+    v′ = difference n (2 * k * 2 ^ d)
 
     q′ : ℤ
-    q′ = minus (roundoffUnsigned rm n d) (2 * k)
+    q′ = difference (roundoffUnsigned rm n d) (2 * k)
 
     holds : Meaning rm v′ d q′
     holds = rw (div-add-mod' n (2 ^ d)) at (result-means d (n / 2 ^ d) (n % 2 ^ d) k (mod-lt n (pow-pos d)) rm)

@@ -11,6 +11,7 @@ use Rattle.fixed.specs.declared.Vxrm.{Vxrm}
 use Rattle.fixed.specs.declared.Vxrm.the-variants.{Rnu, Rne, Rdn, Rod}
 use Rattle.fixed.specs.Round.{roundoffUnsigned, roundoffSigned}
 
+-- q by 2 leaves 0; it leaves 1
 abbrev pub Even : ℤ → Type 0
 Even q = natAbs q % 2 ≡ 0
 
@@ -26,22 +27,22 @@ module _ (v : ℤ) (d : ℕ) (q : ℤ) where
   abbrev pub error : ℤ
   error = v -ℤ q *ℤ divisor
 
-  -- rnu, round-to-nearest-up, "the nearest, ties up": −2^d ≤ 2 * (v − q * 2^d) < 2^d. At a tie the error is −2^d / 2, so that q lies
-  -- above v / 2^d, toward plus infinity: −5 by 1 bit is −2
+  -- rnu, round-to-nearest-up, "the nearest, ties up": −2^d ≤ 2 * (v − q * 2^d) < 2^d. So q * 2^d is at most half of 2^d away from v, and
+  -- just half only where it lies above v, toward plus infinity: −5 by 1 bit is −2
   pub record NearestTiesUp : Type 0 where
-    pub lower : negℤ divisor ≤ℤ (pos 2 *ℤ error)
-    pub upper : (pos 2 *ℤ error) <ℤ divisor
+    pub lowerBound : negℤ divisor ≤ℤ (pos 2 *ℤ error)
+    pub upperBound : (pos 2 *ℤ error) <ℤ divisor
 
   -- rne, round-to-nearest-even, "the nearest, ties to even": −2^d ≤ 2 * (v − q * 2^d) ≤ 2^d, and at either equality q is even
   pub record NearestTiesEven : Type 0 where
-    pub lower : negℤ divisor ≤ℤ (pos 2 *ℤ error)
-    pub upper : (pos 2 *ℤ error) ≤ℤ divisor
+    pub lowerBound : negℤ divisor ≤ℤ (pos 2 *ℤ error)
+    pub upperBound : (pos 2 *ℤ error) ≤ℤ divisor
     pub ties : (pos 2 *ℤ error ≡ negℤ divisor) ⊎ (pos 2 *ℤ error ≡ divisor) → Even q
 
   -- rdn, round-down, "the quotient by 2^d rounded down": q * 2^d ≤ v < (q + 1) * 2^d
   pub record Down : Type 0 where
-    pub lower : (q *ℤ divisor) ≤ℤ v
-    pub upper : v <ℤ ((q +ℤ pos 1) *ℤ divisor)
+    pub lowerBound : (q *ℤ divisor) ≤ℤ v
+    pub upperBound : v <ℤ ((q +ℤ pos 1) *ℤ divisor)
 
   -- rod, round-to-odd, "the quotient if whole, else the odd one of its two neighbours": v = q * 2^d, or q is odd and |v − q * 2^d| < 2^d
   abbrev pub WholeOrOdd : Type 0
@@ -68,7 +69,7 @@ pub record Rounding : Type 0 where
   pub ofSigned : (rm : Vxrm) (v : ℤ) (d : ℕ) → OnlyOf (Meaning rm v d) (roundoffSigned rm v d)
   -- and so is roundoff_unsigned of every natural number
   pub ofUnsigned : (rm : Vxrm) (v d : ℕ) → OnlyOf (Meaning rm (pos v) d) (pos (roundoffUnsigned rm v d))
-  -- −5, 5, 6 and 7 by 1 bit
+  -- −5, 5, 6 and 7 by 1 bit: a line for each, with rnu, rne, rdn, rod
   pub worked : map byOneBit (negℤ (pos 5) ∷ pos 5 ∷ pos 6 ∷ pos 7 ∷ [])
       ≡ ((negℤ (pos 2) ∷ negℤ (pos 2) ∷ negℤ (pos 3) ∷ negℤ (pos 3) ∷ [])
       ∷ (pos 3 ∷ pos 2 ∷ pos 2 ∷ pos 3 ∷ [])
