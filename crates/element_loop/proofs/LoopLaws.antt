@@ -20,7 +20,8 @@ use Rattle.access.specs.Access.{nowhere}
 use Rattle.plan.specs.declared.Elementwise.{Elementwise}
 use Rattle.plan.specs.declared.Plan.{Plan}
 use Rattle.plan.specs.declared.Plan.the-variants as P
-use Rattle.legality.specs.Legal.{startable, isThere, elementsLegal, legalOf}
+use Rattle.legality.specs.Legal.{startable, isThere, elementsLegal}
+use Rattle.legality.proofs.LegalLaws.{elements-of-legal}
 use Rattle.turn_theory.specs.Turn.{Effect, inactive, fault, write, faults, Semantics, Turn, Point, TurnEnd, apply, turn}
 use Rattle.turn_theory.specs.Claims.{Lawful}
 use Rattle.turn_theory.proofs.Laws.{Passed, passed-none, passed-more, passed-trap, passed-pause, passed-finish}
@@ -111,8 +112,7 @@ module _ (b : Board) (e : Elementwise) (registers₀ scalars memory₀ rights : 
     the-lawful = lawful b (l .valid) (P.Elements e) the-sound
 
     the-legal : elementsLegal b c e ≡ true
-    unfolding legalOf
-    the-legal = the-facts .legal
+    the-legal = elements-of-legal b c e (the-facts .legal)
 
     is-there : isThere (e .action) ≡ true
     unfolding elementsLegal

@@ -12,9 +12,10 @@ use Rattle.control.specs.Control.{possibleOf, typedWellOf}
 use Rattle.refusal.specs.Refusal.{refusalOf}
 use Rattle.decode.specs.Listing.{entryOf, find, listing}
 use Rattle.decode.specs.Word.{decodeOf, arithmeticOf, resolvedOf, sourceOf, settingOf, avlOf}
-use Rattle.group.specs.Group.{placedOf, emul8Of, mayOverlapOf, sparesV0}
+use Rattle.group.specs.Group.{placedOf, emul8Of, mayOverlapOf, mayShareOf, sparesV0}
 use Rattle.plan.specs.Plan.{readAt, secondOf, shapedOf, planOf}
-use Rattle.legality.specs.Legal.{readFits, operandsFit, elementsLegal, oneTurnLegal, legalOf}
+use Rattle.plan.specs.Sources.{elementSources, sourcesOf}
+use Rattle.legality.specs.Legal.{readFits, operandsFit, elementsLegal, oneTurnLegal, sourcesFit, kindLegal, legalOf}
 use Rattle.machine.specs.OneTurn.{settingResult, oneTurnResult}
 use Rattle.machine.specs.Machine.{turnOf, rejectionAt}
 use Rattle.examples.specs.Values.{addedAt, Values, Changes}
@@ -22,7 +23,8 @@ use Rattle.examples.specs.Values.{addedAt, Values, Changes}
 -- a turn that finishes, and an illegal one: no machine that answers every word alike meets the definition
 pub two-answers : map addedAt (15 ∷ 16 ∷ []) ≡ (Finished ∷ Illegal ∷ [])
 unfolding turnOf turn clean decodeOf arithmeticOf resolvedOf sourceOf entryOf find listing rejectionAt refusalOf possibleOf typedWellOf
-    supportedOf vlmaxOf planOf shapedOf secondOf readAt legalOf elementsLegal operandsFit readFits placedOf emul8Of mayOverlapOf sparesV0
+    supportedOf vlmaxOf planOf shapedOf secondOf readAt legalOf kindLegal elementsLegal operandsFit readFits placedOf emul8Of mayOverlapOf sparesV0
+    sourcesFit mayShareOf sourcesOf elementSources
 two-answers = refl
 
 pub values : Values
@@ -48,5 +50,5 @@ values = record {
 
 pub changes : Changes
 unfolding turnOf turn clean written decodeOf arithmeticOf resolvedOf entryOf settingOf avlOf rejectionAt refusalOf possibleOf
-    typedWellOf supportedOf vlmaxOf planOf legalOf oneTurnLegal oneTurnResult settingResult setOf
+    typedWellOf supportedOf vlmaxOf planOf legalOf kindLegal oneTurnLegal sourcesFit sourcesOf oneTurnResult settingResult setOf
 changes = refl

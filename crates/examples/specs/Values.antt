@@ -37,15 +37,19 @@ abbrev pub supportedBelow : ℕ → ℕ
 supportedBelow zero = 0
 supportedBelow (suc n) = flag (supportedOf base n) + supportedBelow n
 
--- e64 at LMUL 1 with vl 2, at a vstart; registers and scalars 0, no memory, every page closed
-abbrev pub e64At : ℕ → State
-e64At vstart = record {
+-- a vtype, vl and vstart; registers and scalars 0, no memory, every page closed
+abbrev pub blankAt : ℕ → ℕ → ℕ → State
+blankAt vtype vl vstart = record {
   registers = replicate 512 0;
   scalars = replicate 32 0;
   memory = [];
   rights = replicate 256 0;
-  control = withVstart (withVtype reset 0x18 2) vstart;
+  control = withVstart (withVtype reset vtype vl) vstart;
 }
+
+-- e64 at LMUL 1 with vl 2, at a vstart
+abbrev pub e64At : ℕ → State
+e64At vstart = blankAt 0x18 2 vstart
 
 -- the answer to an uncut turn of vadd.vv v1, v2, v3
 abbrev pub addedAt : ℕ → Answer

@@ -43,6 +43,11 @@ mayOverlapOf d s =
     || ((ltb (d .eew) (s .eew) && lowestOf d s)
     || (ltb (s .eew) (d .eew) && (highestOf d s && leb 8 (s .emul8)))))
 
+-- The ratified manual "reserves a word that reads one register at two different EEWs" (document 02, A5): two sources have no register in
+-- common, or equal EEW
+unfoldable pub mayShareOf : Group → Group → Bool
+mayShareOf r s = apartOf r s || eqb (r .eew) (s .eew)
+
 -- "Masked instructions may not write v0 unless the result is a mask." A group with v0 in it starts there
 unfoldable pub sparesV0 : Bool → Group → Bool
 sparesV0 masked d = not masked || (not (eqb (d .reg) 0) || eqb (d .eew) 1)

@@ -2,7 +2,7 @@
 // The tests are joined by `&` and `|`, as in the definitions: no branches.
 ghost use mathlib.Core.Path.{_≡_};
 ghost use Prim.Native.Nat.{_+_, _≤_, _<_};
-ghost use Rattle.group.specs.Group.{emul8Of, maskGroup, registersOf, placedOf, mayOverlapOf, sparesV0};
+ghost use Rattle.group.specs.Group.{emul8Of, maskGroup, registersOf, placedOf, mayOverlapOf, mayShareOf, sparesV0};
 
 // A group: its first register, EEW, and 8 * EMUL.
 pub struct Group {
@@ -71,6 +71,14 @@ pub fn may_overlap(d: Group, s: Group) -> bool
         | (d.eew == s.eew)
         | ((d.eew < s.eew) & (d.reg == s.reg))
         | ((s.eew < d.eew) & (s_end == d_end) & (8 <= s.emul8))
+}
+
+// Whether two sources may overlap as they do.
+pub fn may_share(r: Group, s: Group) -> bool
+    requires { ⌜ (r .reg < 32) × (s .reg < 32) ⌝ }
+    ensures { λ z. ⌜ z ≡ mayShareOf r s ⌝ }
+{
+    (end(r) <= s.reg) | (end(s) <= r.reg) | (r.eew == s.eew)
 }
 
 // Whether a destination keeps off v0 where v0 is the mask.

@@ -1,25 +1,40 @@
 -- Legality, from what the code has worked out: one law for each way, over plain variables.
-use Prim.Native.Nat.{ℕ}
+use Prim.Native.Nat.{ℕ, _<_}
 use mathlib.Core.Path.{_≡_, refl, _∙_, subst}
 use mathlib.Core.Bool.{Bool, true, false, not, _&&_, _||_}
 use lib.Dec.{leb, eqb}
+use Rattle.laws.proofs.Apart.{both-left}
 use Rattle.laws.proofs.Chain.{case}
 use Rattle.operation.specs.Shape.{largestSew}
 use Rattle.control.specs.declared.Board.{Board}
 use Rattle.control.specs.declared.Control.{Control}
 use Rattle.decode.specs.declared.Setting.{Setting}
 use Rattle.decode.specs.declared.MaskInstruction.{MaskInstruction}
+use Rattle.group.specs.declared.Group.{Group}
+use Rattle.group.specs.Group.{maskGroup}
+use Rattle.plan.specs.declared.Read.{Read}
+use Rattle.plan.specs.declared.Read.the-variants as R
 use Rattle.plan.specs.declared.Action.{Action}
 use Rattle.plan.specs.declared.Action.the-variants as A
 use Rattle.plan.specs.declared.Compute.{Compute}
 use Rattle.plan.specs.declared.Elementwise.{Elementwise}
+use Rattle.plan.specs.declared.Sources.{Sources}
 use Rattle.plan.specs.declared.OneTurn.{OneTurn}
 use Rattle.plan.specs.declared.OneTurn.the-variants as O
 use Rattle.plan.specs.declared.Plan.{Plan}
 use Rattle.plan.specs.declared.Plan.the-variants as P
 use Rattle.legality.specs.Legal.{startable, operandsFit, isThere, elementsLegal}
-use Rattle.legality.specs.Legal.{writesMask, maskApart, oneTurnLegal, legalOf, checkedOf}
-use Rattle.plan.specs.Range.{InRange, PlanFits}
+use Rattle.legality.specs.Legal.{writesMask, maskApart, oneTurnLegal, sourcesFit, kindLegal, legalOf, checkedOf}
+use Rattle.plan.specs.Sources.{sourcesOf}
+use Rattle.plan.specs.Range.{ReadInRange, listed}
+
+-- ---- operands
+
+pub element-range : (r : Read) (g : Group) → r ≡ R.Element g → ReadInRange r → g .reg < 32
+element-range r g e h = subst ReadInRange e h
+
+pub bit-range : (r : Read) (n : ℕ) (m : Group) → r ≡ R.Bit n → m ≡ maskGroup n → ReadInRange r → m .reg < 32
+bit-range r n m e p h = rw p (subst ReadInRange e h)
 
 -- ---- instructions of elements
 
@@ -46,8 +61,22 @@ module _ (b : Board) (c : Control) where
   -- ---- every plan
 
   -- in the arm of the variant v
-  pub legal-by : (p v : Plan) (r : Bool) → p ≡ v → r ≡ legalOf b c v → r ≡ legalOf b c p
-  legal-by p v r e h = case (legalOf b c) p v r e h
+  pub kind-by : (p v : Plan) (r : Bool) → p ≡ v → r ≡ kindLegal b c v → r ≡ kindLegal b c p
+  kind-by p v r e h = case (kindLegal b c) p v r e h
+
+  pub legal-is : (p : Plan) (s : Sources) (kind fit : Bool) → kind ≡ kindLegal b c p → listed s ≡ sourcesOf p → fit ≡ sourcesFit (listed s)
+      → (kind && fit) ≡ legalOf b c p
+  unfolding legalOf
+  legal-is p s kind fit h e k = rw (h, k, e)
+
+  -- what the plan's kind asks, of a plan that is legal
+  pub elements-of-legal : (e : Elementwise) → legalOf b c (P.Elements e) ≡ true → elementsLegal b c e ≡ true
+  unfolding legalOf kindLegal
+  elements-of-legal e h = both-left (elementsLegal b c e) (sourcesFit (sourcesOf (P.Elements e))) h
+
+  pub one-turn-of-legal : (t : OneTurn) → legalOf b c (P.OneTurn t) ≡ true → oneTurnLegal b c t ≡ true
+  unfolding legalOf kindLegal
+  one-turn-of-legal t h = both-left (oneTurnLegal b c t) (sourcesFit (sourcesOf (P.OneTurn t))) h
 
   pub checked-legal : (p q : Plan) (t : Bool) → p ≡ q → t ≡ legalOf b c p → t ≡ true → p ≡ checkedOf b c q
   checked-legal p q t e h k = e ∙ rw (← e, ← h, k)
@@ -58,6 +87,3 @@ module _ (b : Board) (c : Control) where
 pub apart-is : (m : MaskInstruction) (w : Bool) → w ≡ writesMask (m .op)
     → (not w || (not (eqb (m .rd) (m .vs2)) && (not (m .masked) || not (eqb (m .rd) 0)))) ≡ maskApart m
 apart-is m w h = rw h
-
-pub elements-range : (p : Plan) (e : Elementwise) → p ≡ P.Elements e → PlanFits p → InRange e
-elements-range p e q f = subst PlanFits q f

@@ -1,6 +1,7 @@
--- Whether a plan is legal (sections 6.2, 6.3 and 16; document 01, 'Words, groups and elements').
+-- Whether a plan is legal (sections 6.2, 6.3 and 16; document 01, 'Words, groups and elements'; document 02, A5).
 use Prim.Native.Nat.{ℕ, _*_, _/_}
 use mathlib.Core.Bool.{Bool, true, false, not, _&&_, _||_, cond}
+use mathlib.Core.List.{List, [], _∷_}
 use lib.Dec.{ltb, leb, eqb}
 use Rattle.operation.specs.Shape.{largestSew}
 use Rattle.control.specs.declared.Board.{Board}
@@ -10,7 +11,7 @@ use Rattle.decode.specs.declared.MaskOp.{MaskOp}
 use Rattle.decode.specs.declared.MaskOp.the-variants.{Vcpop, Vfirst, Vmsbf, Vmsof, Vmsif}
 use Rattle.decode.specs.declared.MaskInstruction.{MaskInstruction}
 use Rattle.group.specs.declared.Group.{Group}
-use Rattle.group.specs.Group.{maskGroup, placedOf, mayOverlapOf, sparesV0}
+use Rattle.group.specs.Group.{maskGroup, placedOf, mayOverlapOf, mayShareOf, sparesV0}
 use Rattle.plan.specs.declared.Read.{Read}
 use Rattle.plan.specs.declared.Read.the-variants as R
 use Rattle.plan.specs.declared.Action.{Action}
@@ -20,6 +21,7 @@ use Rattle.plan.specs.declared.OneTurn.{OneTurn}
 use Rattle.plan.specs.declared.OneTurn.the-variants as O
 use Rattle.plan.specs.declared.Plan.{Plan}
 use Rattle.plan.specs.declared.Plan.the-variants as P
+use Rattle.plan.specs.Sources.{sourcesOf}
 
 -- "With vill set only setting instructions and whole-register loads and stores are legal. All others are illegal if vstart is 1024/SEW
 -- or more": 1024 is 8 * VLEN
@@ -87,10 +89,23 @@ oneTurnLegal b c (O.Mask m) = startable b c && (eqb (c .vstart) 0 && maskApart m
 
 -- ---- every plan
 
+-- one source beside each of the others
+abbrev pub mayShareEach : Group → List Group → Bool
+mayShareEach s [] = true
+mayShareEach s (r ∷ others) = mayShareOf s r && mayShareEach s others
+
+-- each two sources may overlap as they do, whatever vl, vstart and the mask's values are
+unfoldable pub sourcesFit : List Group → Bool
+sourcesFit [] = true
+sourcesFit (s ∷ others) = mayShareEach s others && sourcesFit others
+
+unfoldable pub kindLegal : Board → Control → Plan → Bool
+kindLegal b c P.Illegal = false
+kindLegal b c (P.OneTurn t) = oneTurnLegal b c t
+kindLegal b c (P.Elements e) = elementsLegal b c e
+
 unfoldable pub legalOf : Board → Control → Plan → Bool
-legalOf b c P.Illegal = false
-legalOf b c (P.OneTurn t) = oneTurnLegal b c t
-legalOf b c (P.Elements e) = elementsLegal b c e
+legalOf b c p = kindLegal b c p && sourcesFit (sourcesOf p)
 
 -- for the contract of an inner function, not to be believed: the plan where it is legal, and `Illegal` otherwise
 abbrev pub checkedOf : Board → Control → Plan → Plan

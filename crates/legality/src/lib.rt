@@ -1,14 +1,16 @@
 // Whether a plan is legal: every rule of answer 2 that is not decode's.
 ghost use mathlib.Core.Path.{_≡_};
 ghost use Prim.Native.Nat.{_≤_, _<_};
+ghost use mathlib.Core.List.{_++_};
 ghost use lib.ListN.{length};
 ghost use Rattle.control.specs.Board.{Valid};
 ghost use Rattle.control.specs.Vtype.{sewOf};
 ghost use Rattle.decode.specs.Fields.{Fits};
 ghost use Rattle.plan.specs.Plan.{planOf};
-ghost use Rattle.plan.specs.Range.{ReadInRange, InRange, PlanFits};
+ghost use Rattle.plan.specs.Sources.{registersRead, sourcesOf};
+ghost use Rattle.plan.specs.Range.{ReadInRange, InRange, PlanFits, listed, SourcesInRange};
 ghost use Rattle.legality.specs.Legal.{startable, readFits, writesRegisters, isBit, operandsFit, isThere, elementsLegal};
-ghost use Rattle.legality.specs.Legal.{writesMask, maskApart, oneTurnLegal, legalOf, checkedOf};
+ghost use Rattle.legality.specs.Legal.{writesMask, maskApart, oneTurnLegal, mayShareEach, sourcesFit, kindLegal, legalOf, checkedOf};
 use control::Board;
 use control::Control;
 use decode::Instruction;
@@ -20,6 +22,7 @@ use plan::Elementwise;
 use plan::OneTurn;
 use plan::Plan;
 use plan::Read;
+use plan::Sources;
 
 // vill is clear, and vstart below 8 * VLEN / SEW.
 fn may_start(board: Board, control: Control) -> bool
@@ -134,16 +137,61 @@ fn one_turn_legal(board: Board, control: Control, t: OneTurn) -> bool
     }
 }
 
-// Whether a plan is legal.
-fn legal(board: Board, control: Control, plan: Plan) -> bool
+// Whether a source may overlap an operand as it does.
+fn may_share_with(s: Group, read: Read) -> bool
+    requires { ⌜ (s .reg < 32) × ReadInRange read ⌝ }
+    ensures { λ r. ⌜ r ≡ mayShareEach s (registersRead read) ⌝ }
+{
+    match read {
+        Read::Constant(_) => true,
+        Read::Element(g) => group::may_share(s, g),
+        Read::Bit(r) => group::may_share(s, group::mask(r)),
+    }
+}
+
+// Whether two operands may overlap as they do.
+fn pair_fits(a: Read, b: Read) -> bool
+    requires { ⌜ ReadInRange a × ReadInRange b ⌝ }
+    ensures { λ r. ⌜ r ≡ sourcesFit (registersRead a ++ registersRead b) ⌝ }
+{
+    match a {
+        Read::Constant(_) => true,
+        Read::Element(g) => may_share_with(g, b),
+        Read::Bit(r) => may_share_with(group::mask(r), b),
+    }
+}
+
+// Whether each two sources may overlap as they do.
+fn sources_fit(sources: Sources) -> bool
+    requires { ⌜ SourcesInRange sources ⌝ }
+    ensures { λ r. ⌜ r ≡ sourcesFit (listed sources) ⌝ }
+{
+    let vs2 = sources.vs2;
+    let vs1 = sources.vs1;
+    let vd = sources.vd;
+    let v0 = sources.v0;
+    (pair_fits(vs2, vs1) & (pair_fits(vs2, vd) & pair_fits(vs1, vd)))
+        & (pair_fits(vs2, v0) & pair_fits(vs1, v0) & pair_fits(vd, v0))
+}
+
+// Whether a plan is legal, but for what its sources share.
+fn kind_legal(board: Board, control: Control, plan: Plan) -> bool
     requires { ⌜ Valid board × PlanFits plan ⌝ }
-    ensures { λ r. ⌜ r ≡ legalOf board control plan ⌝ }
+    ensures { λ r. ⌜ r ≡ kindLegal board control plan ⌝ }
 {
     match plan {
         Plan::Illegal => false,
         Plan::OneTurn(t) => one_turn_legal(board, control, t),
         Plan::Elements(e) => elements_legal(board, control, e),
     }
+}
+
+// Whether a plan is legal.
+fn legal(board: Board, control: Control, plan: Plan) -> bool
+    requires { ⌜ Valid board × PlanFits plan ⌝ }
+    ensures { λ r. ⌜ r ≡ legalOf board control plan ⌝ }
+{
+    kind_legal(board, control, plan) & sources_fit(plan::sources_of(plan))
 }
 
 // The plan of a decoded word where it is legal, and `Illegal` where not.

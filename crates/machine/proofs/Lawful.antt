@@ -25,7 +25,8 @@ use Rattle.plan.specs.declared.Elementwise.{Elementwise}
 use Rattle.plan.specs.declared.OneTurn.the-variants as O
 use Rattle.plan.specs.declared.Plan.{Plan}
 use Rattle.plan.specs.declared.Plan.the-variants as P
-use Rattle.legality.specs.Legal.{startable, operandsFit, isThere, elementsLegal, oneTurnLegal, legalOf}
+use Rattle.legality.specs.Legal.{startable, operandsFit, isThere, elementsLegal, oneTurnLegal, kindLegal, legalOf}
+use Rattle.legality.proofs.LegalLaws.{elements-of-legal}
 use Rattle.turn_theory.specs.Turn.{write, faults, uncutAllowance}
 use Rattle.turn_theory.specs.Claims.{Lawful}
 use Rattle.machine.specs.State.{Core}
@@ -75,7 +76,7 @@ facts-legal b p r s v f = rw (acceptable-accepted b _ _ _ r _ (f .acceptable), f
 
 -- legality does not go by vxsat
 legal-vxsat : (b : Board) (c : Control) (sat : ℕ) (p : Plan) → legalOf b (withVxsat c sat) p ≡ legalOf b c p
-unfolding legalOf elementsLegal oneTurnLegal
+unfolding legalOf kindLegal elementsLegal oneTurnLegal
 legal-vxsat b c sat P.Illegal = refl
 legal-vxsat b c sat (P.OneTurn (O.Setting t)) = refl
 legal-vxsat b c sat (P.OneTurn (O.Mask m)) = refl
@@ -141,11 +142,11 @@ elements-fit b c e h = both-right (isThere (e .action)) _ (both-right (not (e .t
 module _ (b : Board) (w : Valid b) where
   stable : (p : Plan) → PlanSound b p → (r : List ℕ) (s : Core) (v j k : ℕ) (u : Write) → Facts b p r s v → j < k → k < endOf p
       → effectAt b p r s j ≡ write u → effectAt b p r (putOf b u s) k ≡ effectAt b p r s k
-  unfolding legalOf
   stable P.Illegal d r s v j k u f l m h = refl
   stable (P.OneTurn t) d r s v j k u f l m h = refl
   stable (P.Elements e) d r s v j k u f l m h =
-      effect-stable b r s e j k l m u (d .undisturbed (elements-fit b (withVstart (s .control) v) e (f .legal)) (omega arith)) h
+      let c : Control = withVstart (s .control) v in
+      effect-stable b r s e j k l m u (d .undisturbed (elements-fit b c e (elements-of-legal b c e (f .legal))) (omega arith)) h
 
   raised : (p : Plan) (r r′ : List ℕ) (s : Core) (k : ℕ) → Opened r r′ → faults (effectAt b p r s k) ≡ false
       → effectAt b p r′ s k ≡ effectAt b p r s k

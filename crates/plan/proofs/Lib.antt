@@ -2,3 +2,4 @@ pub mod OperandLaws
 pub mod AccessLaws
 pub mod PlanLaws
 pub mod RangeLaws
+pub mod SourceLaws

@@ -13,6 +13,8 @@ use Rattle.width.proofs.Bounds.{low-lt, choice-lt}
 use Rattle.laws.proofs.Chain.{either}
 use Rattle.operation.specs.declared.Size.{Size}
 use Rattle.operation.specs.declared.Size.the-variants.{Absent, Bit, Eighth, Quarter, Half, Single, Double}
+use Rattle.operation.specs.declared.V0.{V0}
+use Rattle.operation.specs.declared.V0.the-variants.{Masks, Operand, MaybeOperand, Unused}
 use Rattle.operation.specs.Shape.{shapeOf}
 use Rattle.control.specs.declared.Board.{Board}
 use Rattle.control.specs.declared.Control.{Control}
@@ -31,9 +33,12 @@ use Rattle.group.specs.declared.Group.{Group}
 use Rattle.plan.specs.declared.Read.{Read}
 use Rattle.plan.specs.declared.Read.the-variants as R
 use Rattle.plan.specs.declared.Transfer.{Transfer}
+use Rattle.plan.specs.declared.Elementwise.{Elementwise}
+use Rattle.plan.specs.declared.OneTurn.{OneTurn}
 use Rattle.plan.specs.declared.Plan.{Plan}
-use Rattle.plan.specs.Plan.{scalarOf, readAt, groupOf, secondOf, shapedOf, computingOf, movingOf, byMode, planOf}
-use Rattle.plan.specs.Range.{ReadInRange, InRange, PlanFits}
+use Rattle.plan.specs.declared.Plan.the-variants as P
+use Rattle.plan.specs.Plan.{scalarOf, readAt, groupOf, secondOf, v0Read, shapedOf, computingOf, movingOf, byMode, planOf}
+use Rattle.plan.specs.Range.{ReadInRange, InRange, OneTurnFits, PlanFits}
 
 -- ---- the registers of a decoded word are in range
 
@@ -61,6 +66,12 @@ second-range x v z unsigned (Immediate n) h = tt
 if-range : (b : Bool) (r : Read) → ReadInRange r → ReadInRange (cond b r (R.Constant 0))
 if-range b r h = either ReadInRange b r (R.Constant 0) (λ t. h) (λ t. tt)
 
+v0-range : (v : V0) (masked : Bool) → ReadInRange (v0Read v masked)
+v0-range Masks masked = tt
+v0-range Operand masked = lit< tt
+v0-range MaybeOperand masked = if-range masked (R.Bit 0) (lit< tt)
+v0-range Unused masked = tt
+
 computing-range : (x : List ℕ) (c : Control) (a : Arithmetic) → ArithmeticFits a → InRange (computingOf x c a)
 unfolding shapedOf
 computing-range x c a f =
@@ -71,12 +82,13 @@ computing-range x c a f =
       vs2 = read-range (c .vtype) (shapeOf (a .op) .vs2) (a .vs2) (f .vs2);
       vs1 = second-range x (c .vtype) (shapeOf (a .op) .vs1) (shapeOf (a .op) .unsigned) (a .source) (f .source);
       vd = if-range (shapeOf (a .op) .accumulates) (readAt (c .vtype) z (a .vd)) d;
+      v0 = v0-range (shapeOf (a .op) .v0) (a .masked);
     }
 
 moving-range : (a : Access) (typed : Bool) (g : Group) (offset : Read) (t : Transfer) (end : ℕ) → g .reg < 32 → ReadInRange offset
     → InRange (movingOf a typed g offset t end)
 unfolding movingOf
-moving-range a typed g offset t end h k = record { dest = h; vs2 = k; vs1 = tt; vd = if-range (a .store) (R.Element g) h }
+moving-range a typed g offset t end h k = record { dest = h; vs2 = k; vs1 = tt; vd = if-range (a .store) (R.Element g) h; v0 = tt }
 
 mode-range : (b : Board) (x : List ℕ) (c : Control) (a : Access) (m : Mode) → a .vd < 32 → ModeFits m → InRange (byMode b x c a m)
 unfolding byMode
@@ -97,6 +109,13 @@ plan-range b x c (I.Memory a) f = mode-range b x c a (a .mode) (f .vd) (f .mode)
 -- of what the code has worked out
 pub planned-range : (b : Board) (x : List ℕ) (c : Control) (i : Instruction) (p : Plan) → p ≡ planOf b x c i → Fits i → PlanFits p
 planned-range b x c i p e f = rw e (plan-range b x c i f)
+
+-- in the arm of the variant
+pub one-turn-range : (p : Plan) (t : OneTurn) → p ≡ P.OneTurn t → PlanFits p → OneTurnFits t
+one-turn-range p t e f = subst PlanFits e f
+
+pub elements-range : (p : Plan) (e : Elementwise) → p ≡ P.Elements e → PlanFits p → InRange e
+elements-range p e q f = subst PlanFits q f
 
 -- ---- an operand that is the same at every index: below 2 ^ SEW
 

@@ -1,2 +1,3 @@
 pub mod Plan
+pub mod Sources
 pub mod Range

@@ -11,6 +11,8 @@ ghost use Rattle.plan.specs.declared.Read.the-variants.{Constant};
 ghost use Rattle.plan.specs.declared.Action.the-variants.{Load, Store};
 ghost use Rattle.plan.specs.Plan.{scalarOf, groupAt, readAt, groupOf, secondOf, v0Read, v0Masks};
 ghost use Rattle.plan.specs.Plan.{computingOf, movingOf, transferringOf, planOf};
+ghost use Rattle.plan.specs.Sources.{v0Source, elementSources, oneTurnSources, sourcesOf};
+ghost use Rattle.plan.specs.Range.{InRange, OneTurnFits, PlanFits, Lists};
 use control::Board;
 use control::Control;
 use decode::Access;
@@ -83,6 +85,14 @@ pub enum Plan {
     Illegal,
     OneTurn(OneTurn),
     Elements(Elementwise),
+}
+
+// What an instruction reads from vector registers; an operand that is not there is a constant.
+pub struct Sources {
+    pub vs2: Read,
+    pub vs1: Read,
+    pub vd: Read,
+    pub v0: Read,
 }
 
 // ---- operands
@@ -353,5 +363,66 @@ pub fn plan_of(board: Board, x: &[u64], control: Control, instruction: Instructi
         Instruction::Mask(m) => Plan::OneTurn(OneTurn::Mask(m)),
         Instruction::Arithmetic(a) => Plan::Elements(computing(x, control, a)),
         Instruction::Memory(a) => Plan::Elements(transferring(board, x, control, a)),
+    }
+}
+
+// ---- the sources of a plan
+
+// v0 as the mask, or as the operand that it may be.
+fn v0_source(masked: bool, operand: Read) -> Read
+    ensures { λ r. ⌜ r ≡ v0Source masked operand ⌝ }
+{
+    if masked {
+        return Read::Bit(0);
+    }
+    operand
+}
+
+// What is read where vs2 and v0 are all that may be.
+fn vs2_and_v0(vs2: Read, v0: Read) -> Sources
+    ensures { λ r. ⌜ r ≡ record { vs2 = vs2; vs1 = Constant 0; vd = Constant 0; v0 = v0 } ⌝ }
+{
+    Sources {
+        vs2,
+        vs1: Read::Constant(0),
+        vd: Read::Constant(0),
+        v0,
+    }
+}
+
+// An instruction that takes one turn.
+fn one_turn_sources(t: OneTurn) -> Sources
+    requires { ⌜ OneTurnFits t ⌝ }
+    ensures { λ r. ⌜ Lists (oneTurnSources t) r ⌝ }
+{
+    let nothing = Read::Constant(0);
+    match t {
+        OneTurn::Setting(_) => vs2_and_v0(nothing, nothing),
+        OneTurn::Mask(m) => vs2_and_v0(Read::Bit(m.vs2), v0_source(m.masked, nothing)),
+    }
+}
+
+// An instruction of elements.
+fn element_sources(e: Elementwise) -> Sources
+    requires { ⌜ InRange e ⌝ }
+    ensures { λ r. ⌜ Lists (elementSources e) r ⌝ }
+{
+    let vs2 = e.vs2;
+    let vs1 = e.vs1;
+    let vd = e.vd;
+    let operand = e.v0;
+    let v0 = v0_source(e.masked, operand);
+    Sources { vs2, vs1, vd, v0 }
+}
+
+// The sources of a plan.
+pub fn sources_of(plan: Plan) -> Sources
+    requires { ⌜ PlanFits plan ⌝ }
+    ensures { λ r. ⌜ Lists (sourcesOf plan) r ⌝ }
+{
+    match plan {
+        Plan::Illegal => vs2_and_v0(Read::Constant(0), Read::Constant(0)),
+        Plan::OneTurn(t) => one_turn_sources(t),
+        Plan::Elements(e) => element_sources(e),
     }
 }

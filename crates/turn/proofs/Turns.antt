@@ -30,7 +30,8 @@ use Rattle.plan.specs.declared.OneTurn.{OneTurn}
 use Rattle.plan.specs.declared.Plan.{Plan}
 use Rattle.plan.specs.declared.Plan.the-variants as P
 use Rattle.plan.specs.Plan.{planOf}
-use Rattle.legality.specs.Legal.{oneTurnLegal, legalOf, checkedOf}
+use Rattle.legality.specs.Legal.{oneTurnLegal, kindLegal, legalOf, checkedOf}
+use Rattle.legality.proofs.LegalLaws.{one-turn-of-legal}
 use Rattle.plan.specs.Range.{OneTurnFits, PlanFits}
 use Rattle.plan.proofs.RangeLaws.{plan-range}
 use Rattle.turn_theory.proofs.Laws.{turn-rejected, one-turn}
@@ -77,7 +78,7 @@ decoded-fits word d e = rw e (Decoded.fits word)
 
 module _ (b : Board) (c : Control) where
   illegal-checked : (p : Plan) → checkedOf b c p ≡ P.Illegal → legalOf b c p ≡ false
-  unfolding legalOf
+  unfolding legalOf kindLegal
   illegal-checked P.Illegal h = refl
   illegal-checked (P.OneTurn t) h = go (legalOf b c (P.OneTurn t)) h
     where
@@ -110,8 +111,7 @@ module _ (b : Board) (x : List ℕ) (c : Control) (d : Instruction) (p : Plan) (
   one-turn-fits t f e = subst PlanFits (one-turn-planned t e .0) (plan-range b x c d f)
 
   pub one-turn-is-legal : (t : OneTurn) → p ≡ P.OneTurn t → T (oneTurnLegal b c t)
-  unfolding legalOf
-  one-turn-is-legal t e = rw (one-turn-planned t e .1) tt
+  one-turn-is-legal t e = rw (one-turn-of-legal b c t (one-turn-planned t e .1)) tt
 
 -- ---- a turn by what the state comes to
 

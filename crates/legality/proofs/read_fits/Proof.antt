@@ -1,5 +1,5 @@
-use Prim.Native.Nat.{ℕ, _<_}
-use mathlib.Core.Path.{_≡_, refl, subst}
+use Prim.Native.Nat.{ℕ}
+use mathlib.Core.Path.{_≡_, refl}
 use mathlib.Core.Bool.{Bool, true, not, _&&_, _||_}
 use borrow.Author.Needs.{needs}
 use Rattle.laws.proofs.Chain.{case}
@@ -8,15 +8,9 @@ use Rattle.group.specs.Group.{maskGroup, placedOf, mayOverlapOf}
 use Rattle.plan.specs.declared.Read.{Read}
 use Rattle.plan.specs.declared.Read.the-variants as R
 use Rattle.legality.specs.Legal.{readFits}
-use Rattle.plan.specs.Range.{ReadInRange}
+use Rattle.legality.proofs.LegalLaws.{element-range, bit-range}
 use Rattle.legality.proofs.read_fits.Statement.{statement}
 use Rattle.legality.proofs.read_fits.Tie as tie
-
-element-range : (r : Read) (g : Group) → r ≡ R.Element g → ReadInRange r → g .reg < 32
-element-range r g e h = subst ReadInRange e h
-
-bit-range : (r : Read) (n : ℕ) (m : Group) → r ≡ R.Bit n → m ≡ maskGroup n → ReadInRange r → m .reg < 32
-bit-range r n m e p h = rw p (subst ReadInRange e h)
 
 constant-fits : (elen : ℕ) (w : Bool) (d : Group) (r : Read) (n : ℕ) → r ≡ R.Constant n → true ≡ readFits elen w d r
 unfolding readFits

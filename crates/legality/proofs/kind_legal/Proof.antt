@@ -1,0 +1,20 @@
+use borrow.Author.Needs.{needs}
+use Rattle.plan.proofs.RangeLaws.{elements-range}
+use Rattle.legality.specs.Legal.{kindLegal}
+use Rattle.legality.proofs.LegalLaws.{kind-by}
+use Rattle.legality.proofs.kind_legal.Statement.{statement}
+use Rattle.legality.proofs.kind_legal.Tie as tie
+
+pub kind-legal-spec : {M : Type 1} → statement M
+unfolding kindLegal
+kind-legal-spec =
+    tie.close
+    (tie.spec
+    (λ c. search needs)
+    (λ c. search needs)
+    (λ c κs. search needs)
+    (λ c. search needs)
+    (λ c κs. search elements-range)
+    (λ c. search kind-by)
+    (λ c. search kind-by)
+    (λ c. search kind-by))

@@ -1,0 +1,39 @@
+-- What an instruction reads from vector registers: its sources, as one list of groups (document 02, A5).
+use Prim.Native.Nat.{ℕ}
+use mathlib.Core.Bool.{Bool, cond}
+use mathlib.Core.List.{List, [], _∷_, _++_}
+use Rattle.group.specs.declared.Group.{Group}
+use Rattle.group.specs.Group.{maskGroup}
+use Rattle.plan.specs.declared.Read.{Read}
+use Rattle.plan.specs.declared.Read.the-variants as R
+use Rattle.plan.specs.declared.Elementwise.{Elementwise}
+use Rattle.plan.specs.declared.OneTurn.{OneTurn}
+use Rattle.plan.specs.declared.OneTurn.the-variants as O
+use Rattle.plan.specs.declared.Plan.{Plan}
+use Rattle.plan.specs.declared.Plan.the-variants as P
+
+-- the registers of an operand: none for a scalar or an immediate, a group, or a mask register, whose EEW is 1
+abbrev pub registersRead : Read → List Group
+registersRead (R.Constant n) = []
+registersRead (R.Element g) = g ∷ []
+registersRead (R.Bit reg) = maskGroup reg ∷ []
+
+-- v0: the mask where the instruction is masked, and otherwise the operand that it may be (in vadc, vsbc, vmadc, vmsbc, vmerge)
+abbrev pub v0Source : Bool → Read → Read
+v0Source masked operand = cond masked (R.Bit 0) operand
+
+-- vs2, which is the index group of an indexed access; vs1; vd where it is read ("an accumulator that is read counts as a source"), which
+-- is what a store stores; v0
+unfoldable pub elementSources : Elementwise → List Group
+elementSources e =
+    registersRead (e .vs2) ++ registersRead (e .vs1) ++ registersRead (e .vd) ++ registersRead (v0Source (e .masked) (e .v0))
+
+-- setting instructions read no vector register; those on masks read vs2 and, where they are masked, v0
+abbrev pub oneTurnSources : OneTurn → List Group
+oneTurnSources (O.Setting t) = []
+oneTurnSources (O.Mask m) = registersRead (R.Bit (m .vs2)) ++ registersRead (v0Source (m .masked) (R.Constant 0))
+
+unfoldable pub sourcesOf : Plan → List Group
+sourcesOf P.Illegal = []
+sourcesOf (P.OneTurn t) = oneTurnSources t
+sourcesOf (P.Elements e) = elementSources e
