@@ -28,7 +28,8 @@ extern "C" {
 enum {
     PRASHUNDE_FINISHED = 0,         /* no element remains; vstart is 0 */
     PRASHUNDE_PAUSED = 1,           /* the allowance is used up; vstart is the next element */
-    PRASHUNDE_ILLEGAL = 2,          /* a reserved, left out or unsupported word, or no such CSR; nothing is changed */
+    PRASHUNDE_ILLEGAL = 2,          /* a reserved, left out or unsupported word (also one that reads one register at two different EEWs), or no
+                                       such CSR; nothing is changed */
     PRASHUNDE_LOAD_MISALIGNED = 4,  /* 4 to 7 and 37: the elements before the faulting one are done, vstart is that element */
     PRASHUNDE_LOAD_ACCESS = 5,      /* past memory, or the page may not be read */
     PRASHUNDE_STORE_MISALIGNED = 6,

@@ -62,6 +62,7 @@ int main(void)
     rights[1] = 1;
     turn("page 1 open", 0x02058407, 3);
     turn("the rest", 0x02058407, UINT32_MAX);
+    turn("vadd.vv v8, v0, v10, v0.t", 0x00050457, UINT32_MAX); /* v0 is data and mask: read at two EEWs */
     view(8, 2);
     view(9, 2);
     csr(0x00f, 15);

@@ -78,6 +78,7 @@ fn main() {
     m.rights[1] = 1;
     m.turn("page 1 open", 0x02058407, 3);
     m.turn("the rest", 0x02058407, u32::MAX);
+    m.turn("vadd.vv v8, v0, v10, v0.t", 0x00050457, u32::MAX); // v0 is data and mask: read at two EEWs
     m.view(8, 2);
     m.view(9, 2);
     m.csr(0x00f, 15);

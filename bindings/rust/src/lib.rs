@@ -40,6 +40,7 @@ pub mod ffi {
 pub enum Answer {
     Finished = 0,
     Paused = 1,
+    /// A reserved, left out or unsupported word (also one that reads one register at two different EEWs), or no such CSR.
     Illegal = 2,
     LoadMisaligned = 4,
     LoadAccess = 5,

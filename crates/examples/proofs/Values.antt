@@ -23,8 +23,8 @@ use Rattle.examples.specs.Values.{addedAt, Values, Changes}
 -- a turn that finishes, and an illegal one: no machine that answers every word alike meets the definition
 pub two-answers : map addedAt (15 ∷ 16 ∷ []) ≡ (Finished ∷ Illegal ∷ [])
 unfolding turnOf turn clean decodeOf arithmeticOf resolvedOf sourceOf entryOf find listing rejectionAt refusalOf possibleOf typedWellOf
-    supportedOf vlmaxOf planOf shapedOf secondOf readAt legalOf kindLegal elementsLegal operandsFit readFits placedOf emul8Of mayOverlapOf sparesV0
-    sourcesFit mayShareOf sourcesOf elementSources
+    supportedOf vlmaxOf planOf shapedOf secondOf readAt legalOf kindLegal elementsLegal operandsFit readFits placedOf emul8Of mayOverlapOf
+    sparesV0 sourcesFit mayShareOf sourcesOf elementSources
 two-answers = refl
 
 pub values : Values

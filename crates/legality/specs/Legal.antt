@@ -89,6 +89,12 @@ oneTurnLegal b c (O.Mask m) = startable b c && (eqb (c .vstart) 0 && maskApart m
 
 -- ---- every plan
 
+-- by its kind: every rule but that of the sources
+unfoldable pub kindLegal : Board → Control → Plan → Bool
+kindLegal b c P.Illegal = false
+kindLegal b c (P.OneTurn t) = oneTurnLegal b c t
+kindLegal b c (P.Elements e) = elementsLegal b c e
+
 -- one source beside each of the others
 abbrev pub mayShareEach : Group → List Group → Bool
 mayShareEach s [] = true
@@ -99,11 +105,7 @@ unfoldable pub sourcesFit : List Group → Bool
 sourcesFit [] = true
 sourcesFit (s ∷ others) = mayShareEach s others && sourcesFit others
 
-unfoldable pub kindLegal : Board → Control → Plan → Bool
-kindLegal b c P.Illegal = false
-kindLegal b c (P.OneTurn t) = oneTurnLegal b c t
-kindLegal b c (P.Elements e) = elementsLegal b c e
-
+-- "decided with the other word checks" (A5)
 unfoldable pub legalOf : Board → Control → Plan → Bool
 legalOf b c p = kindLegal b c p && sourcesFit (sourcesOf p)
 

@@ -4,3 +4,4 @@ pub mod EffectLaws
 pub mod Lawful
 pub mod Demands
 pub mod Theorems
+pub mod TwoEews

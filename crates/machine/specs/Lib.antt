@@ -4,3 +4,4 @@ pub mod OneTurn
 pub mod Machine
 pub mod Call
 pub mod Demands
+pub mod TwoEews
