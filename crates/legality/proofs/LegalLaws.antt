@@ -3,6 +3,7 @@ use Prim.Native.Nat.{ℕ, _<_}
 use mathlib.Core.Path.{_≡_, refl, _∙_, subst}
 use mathlib.Core.Bool.{Bool, true, false, not, _&&_, _||_}
 use lib.Dec.{leb, eqb}
+use borrow.Author.Tests.{not-true, not-false}
 use Rattle.laws.proofs.Apart.{both-left}
 use Rattle.laws.proofs.Chain.{case}
 use Rattle.operation.specs.Shape.{largestSew}
@@ -64,10 +65,14 @@ module _ (b : Board) (c : Control) where
   pub kind-by : (p v : Plan) (r : Bool) → p ≡ v → r ≡ kindLegal b c v → r ≡ kindLegal b c p
   kind-by p v r e h = case (kindLegal b c) p v r e h
 
-  pub legal-is : (p : Plan) (s : Sources) (kind fit : Bool) → kind ≡ kindLegal b c p → listed s ≡ sourcesOf p → fit ≡ sourcesFit (listed s)
-      → (kind && fit) ≡ legalOf b c p
+  pub legal-not : (p : Plan) (kind : Bool) → kind ≡ kindLegal b c p → not kind ≡ true → false ≡ legalOf b c p
   unfolding legalOf
-  legal-is p s kind fit h e k = rw (h, k, e)
+  legal-not p kind h n = rw (← h, not-true kind n)
+
+  pub legal-is : (p : Plan) (s : Sources) (kind fit : Bool) → kind ≡ kindLegal b c p → not kind ≡ false → listed s ≡ sourcesOf p
+      → fit ≡ sourcesFit (listed s) → fit ≡ legalOf b c p
+  unfolding legalOf
+  legal-is p s kind fit h n e k = rw (← h, not-false kind n, k, e)
 
   -- what the plan's kind asks, of a plan that is legal
   pub elements-of-legal : (e : Elementwise) → legalOf b c (P.Elements e) ≡ true → elementsLegal b c e ≡ true

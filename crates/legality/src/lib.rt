@@ -191,7 +191,10 @@ fn legal(board: Board, control: Control, plan: Plan) -> bool
     requires { ⌜ Valid board × PlanFits plan ⌝ }
     ensures { λ r. ⌜ r ≡ legalOf board control plan ⌝ }
 {
-    kind_legal(board, control, plan) & sources_fit(plan::sources_of(plan))
+    if !kind_legal(board, control, plan) {
+        return false;
+    }
+    sources_fit(plan::sources_of(plan))
 }
 
 // The plan of a decoded word where it is legal, and `Illegal` where not.

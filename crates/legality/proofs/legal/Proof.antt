@@ -1,5 +1,5 @@
 use borrow.Author.Needs.{needs}
-use Rattle.legality.proofs.LegalLaws.{legal-is}
+use Rattle.legality.proofs.LegalLaws.{legal-not, legal-is}
 use Rattle.legality.proofs.legal.Statement.{statement}
 use Rattle.legality.proofs.legal.Tie as tie
 
@@ -8,6 +8,7 @@ legal-spec =
     tie.close
     (tie.spec
     (λ c κs. search needs)
+    (λ c. search legal-not)
     (λ c κs. search needs)
     (λ c κs. search needs)
     (λ c. search legal-is))
