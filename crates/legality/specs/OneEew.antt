@@ -12,7 +12,7 @@ use Rattle.legality.specs.Legal.{sourcesFit}
 abbrev pub Has : Group → ℕ → Type 0
 Has g n = (g .reg ≤ n) × (n < g .reg + registersOf g)
 
--- source k, counted from 0
+-- source k, counted from 0; past the end none is asked for
 abbrev pub sourceAt : List Group → ℕ → Group
 sourceAt sources k = getD sources k (maskGroup 0)
 

@@ -1,5 +1,4 @@
 -- What an instruction reads from vector registers: its sources, as one list of groups (document 02, A5).
-use Prim.Native.Nat.{ℕ}
 use mathlib.Core.Bool.{Bool, cond}
 use mathlib.Core.List.{List, [], _∷_, _++_}
 use Rattle.group.specs.declared.Group.{Group}
