@@ -15,7 +15,7 @@ use Rattle.legality.specs.Legal.{mayShareEach, sourcesFit}
 -- ---- lists of groups
 
 -- each of the first list beside each of the second
-abbrev pub across : List Group → List Group → Bool
+abbrev across : List Group → List Group → Bool
 across [] others = true
 across (s ∷ sources) others = mayShareEach s others && across sources others
 
@@ -23,7 +23,7 @@ each-of-both : (s : Group) (l m : List Group) → mayShareEach s (l ++ m) ≡ (m
 each-of-both s [] m = refl
 each-of-both s (x ∷ l) m = simp (each-of-both s l m, and-assoc)
 
-pub across-of-both : (k l m : List Group) → across (k ++ l) m ≡ (across k m && across l m)
+across-of-both : (k l m : List Group) → across (k ++ l) m ≡ (across k m && across l m)
 across-of-both [] l m = refl
 across-of-both (x ∷ k) l m = simp (across-of-both k l m, and-assoc)
 
@@ -33,7 +33,7 @@ exchanged true false true s t = refl
 exchanged true false false s t = refl
 exchanged false q r s t = refl
 
-pub fit-of-both : (l m : List Group) → sourcesFit (l ++ m) ≡ (sourcesFit l && (across l m && sourcesFit m))
+fit-of-both : (l m : List Group) → sourcesFit (l ++ m) ≡ (sourcesFit l && (across l m && sourcesFit m))
 unfolding sourcesFit
 fit-of-both [] m = refl
 fit-of-both (x ∷ l) m =
