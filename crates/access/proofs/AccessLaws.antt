@@ -1,21 +1,28 @@
--- The access test by its outcomes.
-use mathlib.Core.Path.{_≡_}
-use mathlib.Core.Bool.{Bool, _&&_, cond}
+-- The access test by its outcomes; the loop over the fields of a segment.
+use mathlib.Core.Path.{_≡_, sym, ap, _∙_}
+use mathlib.Core.Bool.{Bool, true, false, not, _&&_, cond}
 use mathlib.Core.List.{List}
-use Prim.Native.Nat.{ℕ, _+_, _-_, _/_, _%_, _^_, _≤_, _<_}
+use Prim.Native.Nat.{ℕ, suc, _+_, _-_, _*_, _/_, _%_, _^_, _≤_, _<_}
+use native.Mathlib.Numerals.{add-one}
 use native.Mathlib.Omega.{arith}
 use lib.ListN.{getD}
-use lib.Dec.{T, leb}
+use lib.Bits.{bitAnd, and-mask}
+use lib.Dec.{T, leb, eqb}
 use mir.Syntax.{w64}
 use mir.Val.{Fits}
-use borrow.Author.Tests.{eq-eqb, ne-eqb, le-leb, lt-leb}
+use borrow.Author.Tests.{eq-eqb, eqb-true, ne-eqb, le-leb, lt-leb, not-false}
 use Rattle.layout.specs.Layout.{byteSize}
 use Rattle.layout.proofs.WidthLaws.{size-elim, size-pos}
 use Rattle.answer.specs.declared.Answer.{Answer}
 use Rattle.answer.specs.declared.Answer.the-variants.{TwoPages}
+use Rattle.access.specs.declared.Fault.{Fault}
 use Rattle.access.specs.declared.AccessCheck.{AccessCheck}
-use Rattle.access.specs.declared.AccessCheck.the-variants.{Granted}
-use Rattle.access.specs.Access.{faultAt, needed, misaligned, denied, accessOf}
+use Rattle.access.specs.declared.AccessCheck.the-variants.{Granted, Faulted}
+use Rattle.access.specs.Access.{faultAt, needed, misaligned, denied, accessOf, fieldAddress, orNext, fieldsAccess}
+
+-- the address is a multiple of the size
+pub is-aligned : (a n : ℕ) (t : Bool) → t ≡ eqb (a % n) 0 → not t ≡ false → a % n ≡ 0
+is-aligned a n t e f = eqb-true (a % n) 0 (sym e ∙ not-false t f)
 
 -- an aligned element ends below 2 ^ 64
 pub last-fits : (a n : ℕ) → T (byteSize n) → a % n ≡ 0 → Fits w64 a → Fits w64 (a + (n - 1))
@@ -30,10 +37,10 @@ abbrev Whole : ℕ → ℕ → Type 0
 Whole a n = T (byteSize n) × ((a % n ≡ 0) × (a / 256 ≡ (a + (n - 1)) / 256))
 
 module _ (rights : List ℕ) (memory : ℕ) (store : Bool) (a n : ℕ) where
-  pub not-aligned : (r : AccessCheck) (x : Answer) → (a % n ≡ 0 → ⊥) → x ≡ misaligned store → r ≡ faultAt x a
+  pub not-aligned : (r : AccessCheck) (x : Answer) (t : Bool) → t ≡ eqb (a % n) 0 → not t ≡ true → x ≡ misaligned store → r ≡ faultAt x a
       → r ≡ accessOf rights memory store a n
   unfolding accessOf
-  not-aligned r x f p q = rw (ne-eqb (a % n) 0 f, ← p) q
+  not-aligned r x t e f p q = rw (← e, f, ← p) q
 
   pub two-pages : (r : AccessCheck) → T (byteSize n) → a % n ≡ 0 → (a / 256 ≡ (a + (n - 1)) / 256 → ⊥) → r ≡ faultAt TwoPages a
       → r ≡ accessOf rights memory store a n
@@ -58,3 +65,59 @@ module _ (rights : List ℕ) (memory : ℕ) (store : Bool) (a n : ℕ) where
 
     pub granted : k ≤ getD rights (a / 256) 0 → Granted ≡ accessOf rights memory store a n
     granted l = rw (one-page w, le-leb (a + n) memory (omega arith), ← g, le-leb k (getD rights (a / 256) 0) l)
+
+-- the bits below a power of 2
+pub size-mask : (a n : ℕ) → T (byteSize n) → eqb (bitAnd a (n - 1)) 0 ≡ eqb (a % n) 0
+size-mask a n t =
+    ap (λ (x : ℕ). eqb x 0)
+    (size-elim (λ k. bitAnd a (k - 1) ≡ a % k) (and-mask a 0) (and-mask a 1) (and-mask a 2) (and-mask a 3) n t)
+
+-- ---- fields
+
+pub first-field : (a n : ℕ) → Fits w64 a → a ≡ fieldAddress a n 0
+first-field a n f = omega (arith, f .fits)
+
+next-field : (a n k : ℕ) → (fieldAddress a n k + n) % 2 ^ 64 ≡ fieldAddress a n (k + 1)
+next-field a n k = omega arith
+
+module _ (rights : List ℕ) (memory : ℕ) (store : Bool) (a n nf : ℕ) where
+  -- fields 0 to k - 1 are granted, so that the others decide
+  pub record Testing (field k : ℕ) : Type 0 where
+    pub most : k ≤ suc nf
+    pub here : field ≡ fieldAddress a n k
+    pub rest : fieldsAccess rights memory store a n 0 (suc nf) ≡ fieldsAccess rights memory store a n k (suc nf - k)
+
+  pub testing-none : (field k : ℕ) → Fits w64 a → field ≡ a → k ≡ 0 → Testing field k
+  testing-none field k f e z = record {
+    most = omega arith;
+    here = e ∙ first-field a n f ∙ ap (fieldAddress a n) (sym z);
+    rest = rw (z, all);
+  } where
+    all : suc nf - 0 ≡ suc nf
+    all = omega arith
+
+  module _ (field k : ℕ) (t : Testing field k) (l : k ≤ nf) (v : AccessCheck) (p : v ≡ accessOf rights memory store field n) where
+    -- with field k before the others
+    split : fieldsAccess rights memory store a n 0 (suc nf) ≡ orNext v (fieldsAccess rights memory store a n (suc k) (nf - k))
+    unfolding fieldsAccess
+    split = t .rest ∙ rw (sub-suc, p, t .here)
+      where
+        sub-suc : suc nf - k ≡ suc (nf - k)
+        sub-suc = omega arith
+
+    pub testing-faulted : (f : Fault) → v ≡ Faulted f → v ≡ fieldsAccess rights memory store a n 0 (suc nf)
+    testing-faulted f q = sym (split ∙ rw q)
+
+    pub testing-more : (field′ : ℕ) → v ≡ Granted → field′ ≡ (field + n) % 2 ^ 64 → Testing field′ (k + 1)
+    testing-more field′ q e = record {
+      most = omega arith;
+      here = e ∙ ap (λ (x : ℕ). (x + n) % 2 ^ 64) (t .here) ∙ next-field a n k;
+      rest = split ∙ rw (q, add-one) (ap (fieldsAccess rights memory store a n (suc k)) (omega arith));
+    }
+
+  pub testing-done : (field k : ℕ) → Testing field k → nf < k → Granted ≡ fieldsAccess rights memory store a n 0 (suc nf)
+  unfolding fieldsAccess
+  testing-done field k t l = sym (t .rest ∙ rw none)
+    where
+      none : suc nf - k ≡ 0
+      none = omega arith

@@ -1,5 +1,6 @@
--- The access test of one element (document 01, 'One turn and its answer'): alignment, then 37, then end of memory and right.
-use Prim.Native.Nat.{ℕ, _+_, _-_, _/_, _%_}
+-- The access test of one element (document 01, 'One turn and its answer'): alignment, then 37, then end of memory and right; and of all fields
+-- of a segment (document 02, A1).
+use Prim.Native.Nat.{ℕ, zero, suc, _+_, _-_, _*_, _/_, _%_, _^_}
 use mathlib.Core.Bool.{Bool, not, _&&_, cond}
 use mathlib.Core.List.{List}
 use lib.ListN.{getD}
@@ -39,3 +40,20 @@ accessOf rights memory store a n =
     (cond (not (eqb (pageOf a) (pageOf (a + n - 1)))) (faultAt TwoPages a)
     (cond (leb (a + n) memory && leb (needed store) (getD rights (pageOf a) 0)) Granted
     (faultAt (denied store) a)))
+
+-- ---- the fields of a segment: each of n bytes, the first at address a
+
+-- field k; "addresses modulo 2^64"
+abbrev pub fieldAddress : ℕ → ℕ → ℕ → ℕ
+fieldAddress a n k = (a + k * n) % 2 ^ 64
+
+-- the first test that faults decides
+abbrev pub orNext : AccessCheck → AccessCheck → AccessCheck
+orNext Granted next = next
+orNext (Faulted f) next = Faulted f
+
+-- "Fields are checked upward before any of the segment moves" (A1): so many of them, from field k on
+unfoldable pub fieldsAccess : List ℕ → ℕ → Bool → ℕ → ℕ → ℕ → ℕ → AccessCheck
+fieldsAccess rights memory store a n k zero = Granted
+fieldsAccess rights memory store a n k (suc others) =
+    orNext (accessOf rights memory store (fieldAddress a n k) n) (fieldsAccess rights memory store a n (suc k) others)

@@ -1,10 +1,10 @@
-// The access test of one element, and what a fault tells.
+// The access test of one element and of the fields of a segment, and what a fault tells.
 ghost use mathlib.Core.Path.{_≡_};
-ghost use Prim.Native.Nat.{_≤_};
+ghost use Prim.Native.Nat.{suc, _%_, _≤_};
 ghost use lib.ListN.{length};
-ghost use lib.Dec.{T};
+ghost use lib.Dec.{T, eqb};
 ghost use Rattle.layout.specs.Layout.{byteSize};
-ghost use Rattle.access.specs.Access.{nowhere, faultAt, needed, misaligned, denied, accessOf};
+ghost use Rattle.access.specs.Access.{nowhere, faultAt, needed, misaligned, denied, accessOf, fieldsAccess};
 use answer::Answer;
 
 // Where a fault lies: the address of the faulting element's first byte.
@@ -64,12 +64,20 @@ fn right_needed(store: bool) -> u8
     if store { 2 } else { 1 }
 }
 
+// Whether the address a is a multiple of n, a power of 2.
+fn aligned(a: u64, n: u64) -> bool
+    requires { ⌜ T (byteSize n) ⌝ }
+    ensures { λ r. ⌜ r ≡ eqb (a % n) 0 ⌝ }
+{
+    a & (n - 1) == 0
+}
+
 // The element of n bytes at address a, in a memory of so many bytes.
 pub fn access(rights: &[u8], memory: usize, store: bool, a: u64, n: u64) -> AccessCheck
     requires { ⌜ (length (now rights) ≡ 256) × ((memory ≤ 65536) × T (byteSize n)) ⌝ }
     ensures { λ r. ⌜ r ≡ accessOf (now (rights .entry)) memory store a n ⌝ }
 {
-    if a % n != 0 {
+    if !aligned(a, n) {
         return fault_at(misaligned_answer(store), a);
     }
     // an aligned element ends below 2^64
@@ -85,6 +93,27 @@ pub fn access(rights: &[u8], memory: usize, store: bool, a: u64, n: u64) -> Acce
     let page = (a / 256) as usize;
     if rights[page] < right_needed(store) {
         return fault_at(denied_answer(store), a);
+    }
+    AccessCheck::Granted
+}
+
+// The fields of a segment, each of n bytes, upward from the one at address a; nf of them follow it.
+pub fn segment(rights: &[u8], memory: usize, store: bool, a: u64, n: u64, nf: u32) -> AccessCheck
+    requires { ⌜ (length (now rights) ≡ 256) × ((memory ≤ 65536) × T (byteSize n)) ⌝ }
+    ensures { λ r. ⌜ r ≡ fieldsAccess (now (rights .entry)) memory store a n 0 (suc nf) ⌝ }
+{
+    let last = nf as u64;
+    let mut field = a;
+    let mut k: u64 = 0;
+    while k <= last {
+        let check = access(rights, memory, store, field, n);
+        match check {
+            AccessCheck::Faulted(_) => return check,
+            AccessCheck::Granted => {
+                field = std::num::wrapping_add_u64(field, n);
+                k += 1;
+            }
+        }
     }
     AccessCheck::Granted
 }

@@ -20,7 +20,7 @@ use Rattle.decode.specs.declared.Instruction.the-variants as I
 use Rattle.decode.specs.declared.Entry.{Entry}
 use Rattle.decode.specs.declared.Entry.the-variants.{Reserved, Operation, OnMask, MergeOrMove, Vxunary0, Vwxunary0, Vmunary0, Setting}
 use Rattle.decode.specs.Word.{funct3, funct6, rs2, vm, masked, vmFits, sourceOf, resolvedOf, namedOf, arithmeticOf}
-use Rattle.decode.specs.Word.{avlOf, settingOf, widthOf, access, plainOf, maskOf, wholeCount, wholeOf, unitOf, memoryOf, decodeOf}
+use Rattle.decode.specs.Word.{avlOf, settingOf, widthOf, access, maskOf, wholeCount, wholeOf, unitOf, memoryOf, decodeOf}
 use Rattle.decode.specs.Listing.{Row, listing, find, keep, inColumn, entryOf}
 use Rattle.decode.specs.Fields.{SourceFits, SizeFits, AvlFits, ModeFits, Fits}
 
@@ -180,15 +180,15 @@ left-false true q h = h
 left-false false q h = refl
 
 module _ (store : Bool) (w : ℕ) (e : eqb (widthOf (funct3 w)) 0 ≡ false) where
-  access-fits : (mode : Mode) → ModeFits mode → Fits (access store mode w)
-  access-fits mode m = search (width-fits, five-bits)
+  access-fits : (mode : Mode) (further : ℕ) → ModeFits mode → Fits (access store mode further w)
+  access-fits mode further m = search (width-fits, five-bits)
 
   unit-fits : Fits (unitOf store w)
-  unfolding unitOf plainOf wholeOf maskOf
+  unfolding unitOf wholeOf maskOf
   unit-fits = search (either Fits, access-fits, count-fits, middle) depth 7
 
 memory-fits : (store : Bool) (w : ℕ) → Fits (memoryOf store w)
-unfolding memoryOf plainOf
+unfolding memoryOf
 memory-fits store w = search (either Fits, unit-fits, access-fits, left-false, five-bits) depth 7
 
 -- ---- every word

@@ -56,7 +56,7 @@ mop w = w / 2 ^ 26 % 4
 abbrev pub mew : ℕ → ℕ
 mew w = w / 2 ^ 28 % 2
 
--- one less than the number of fields
+-- one less than the number of fields, or of whole registers
 abbrev pub nf : ℕ → ℕ
 nf w = w / 2 ^ 29 % 8
 
@@ -136,17 +136,18 @@ unfoldable pub widthOf : ℕ → ℕ
 widthOf width =
     cond (eqb width 0b000) 8 (cond (eqb width 0b101) 16 (cond (eqb width 0b110) 32 (cond (eqb width 0b111) 64 0)))
 
-abbrev pub access : Bool → Mode → ℕ → Instruction
-access store mode w =
-    I.Memory (record { store = store; mode = mode; eew = widthOf (funct3 w); vd = rd w; rs1 = rs1 w; masked = masked w })
+-- how many fields of a segment follow its first (section 8.8): none where there is no segment
+abbrev pub access : Bool → Mode → ℕ → ℕ → Instruction
+access store mode further w =
+    I.Memory (record { store = store; mode = mode; eew = widthOf (funct3 w); vd = rd w; rs1 = rs1 w; masked = masked w; nf = further })
 
--- one field: more are segments, left out
-unfoldable pub plainOf : Bool → Mode → ℕ → Instruction
-plainOf store mode w = cond (eqb (nf w) 0) (access store mode w) I.Illegal
+-- unit-stride, strided and indexed accesses: elements, or segments of nf + 1 fields
+abbrev pub segmentOf : Bool → Mode → ℕ → Instruction
+segmentOf store mode w = access store mode (nf w) w
 
 -- vlm and vsm (section 8.4): unmasked, EEW 8, one field
 unfoldable pub maskOf : Bool → ℕ → Instruction
-maskOf store w = cond (eqb (vm w) 1 && eqb (nf w) 0 && eqb (funct3 w) 0) (access store MaskBytes w) I.Illegal
+maskOf store w = cond (eqb (vm w) 1 && eqb (nf w) 0 && eqb (funct3 w) 0) (access store MaskBytes 0 w) I.Illegal
 
 -- whole registers (section 8.9): unmasked, 1, 2, 4 or 8 of them, stores with EEW 8
 abbrev pub wholeCount : ℕ → Bool
@@ -155,13 +156,13 @@ wholeCount nf = eqb nf 0 || eqb nf 1 || eqb nf 3 || eqb nf 7
 unfoldable pub wholeOf : Bool → ℕ → Instruction
 wholeOf store w =
     cond (eqb (vm w) 1 && wholeCount (nf w) && (not store || eqb (funct3 w) 0))
-    (access store (Whole (nf w + 1)) w)
+    (access store (Whole (nf w + 1)) 0 w)
     I.Illegal
 
 -- lumop and sumop (section 8.2): 01011 mask, 01000 whole registers; 10000, fault-only-first, is left out
 unfoldable pub unitOf : Bool → ℕ → Instruction
 unitOf store w =
-    cond (eqb (rs2 w) 0b00000) (plainOf store UnitStride w)
+    cond (eqb (rs2 w) 0b00000) (segmentOf store UnitStride w)
     (cond (eqb (rs2 w) 0b01000) (wholeOf store w)
     (cond (eqb (rs2 w) 0b01011) (maskOf store w)
     I.Illegal))
@@ -171,8 +172,8 @@ unfoldable pub memoryOf : Bool → ℕ → Instruction
 memoryOf store w =
     cond (eqb (widthOf (funct3 w)) 0 || eqb (mew w) 1) I.Illegal
     (cond (eqb (mop w) 0b00) (unitOf store w)
-    (cond (eqb (mop w) 0b10) (plainOf store (Strided (rs2 w)) w)
-    (plainOf store (Indexed (rs2 w)) w)))
+    (cond (eqb (mop w) 0b10) (segmentOf store (Strided (rs2 w)) w)
+    (segmentOf store (Indexed (rs2 w)) w)))
 
 -- ---- every word
 

@@ -5,7 +5,7 @@ ghost use Rattle.decode.specs.declared.Entry.the-variants.{MergeOrMove};
 ghost use Rattle.decode.specs.Listing.{vxunary0, vwxunary0, vmunary0, find, entryOf};
 ghost use Rattle.decode.specs.Word.{opcode, rd, funct3, rs1, rs2, vm, funct6, mop, mew, nf, masked};
 ghost use Rattle.decode.specs.Word.{vmFits, sourceOf, resolvedOf, operationOf, namedOf, arithmeticOf, avlOf, settingBy, settingOf};
-ghost use Rattle.decode.specs.Word.{widthOf, access, plainOf, maskOf, wholeCount, wholeOf, unitOf, memoryOf, decodeOf};
+ghost use Rattle.decode.specs.Word.{widthOf, access, segmentOf, maskOf, wholeCount, wholeOf, unitOf, memoryOf, decodeOf};
 use operation::Op;
 use operation::V0;
 
@@ -82,6 +82,8 @@ pub struct Access {
     pub vd: usize,
     pub rs1: usize,
     pub masked: bool,
+    // one less than the number of fields of a segment (section 8.8); 0 for all that is no segment access
+    pub nf: u32,
 }
 
 pub enum Instruction {
@@ -542,8 +544,8 @@ fn width_of(word: u32) -> u64
     }
 }
 
-fn access_of(store: bool, mode: Mode, word: u32) -> Instruction
-    ensures { λ r. ⌜ r ≡ access store mode word ⌝ }
+fn access_of(store: bool, mode: Mode, further: u32, word: u32) -> Instruction
+    ensures { λ r. ⌜ r ≡ access store mode further word ⌝ }
 {
     Instruction::Memory(Access {
         store,
@@ -552,17 +554,15 @@ fn access_of(store: bool, mode: Mode, word: u32) -> Instruction
         vd: rd(word) as usize,
         rs1: rs1(word) as usize,
         masked: masked(word),
+        nf: further,
     })
 }
 
-// One field: more are segments, left out.
-fn plain_of(store: bool, mode: Mode, word: u32) -> Instruction
-    ensures { λ r. ⌜ r ≡ plainOf store mode word ⌝ }
+// Elements, or segments of nf + 1 fields (section 8.8).
+fn segment_of(store: bool, mode: Mode, word: u32) -> Instruction
+    ensures { λ r. ⌜ r ≡ segmentOf store mode word ⌝ }
 {
-    if nf(word) == 0 {
-        return access_of(store, mode, word);
-    }
-    Instruction::Illegal
+    access_of(store, mode, nf(word), word)
 }
 
 // vlm and vsm (section 8.4).
@@ -570,7 +570,7 @@ fn mask_of(store: bool, word: u32) -> Instruction
     ensures { λ r. ⌜ r ≡ maskOf store word ⌝ }
 {
     if (vm(word) == 1) & (nf(word) == 0) & (funct3(word) == 0) {
-        return access_of(store, Mode::MaskBytes, word);
+        return access_of(store, Mode::MaskBytes, 0, word);
     }
     Instruction::Illegal
 }
@@ -588,7 +588,7 @@ fn whole_of(store: bool, word: u32) -> Instruction
 {
     let nf = nf(word);
     if (vm(word) == 1) & whole_count(nf) & (!store | (funct3(word) == 0)) {
-        return access_of(store, Mode::Whole((nf + 1) as usize), word);
+        return access_of(store, Mode::Whole((nf + 1) as usize), 0, word);
     }
     Instruction::Illegal
 }
@@ -598,7 +598,7 @@ fn unit_of(store: bool, word: u32) -> Instruction
     ensures { λ r. ⌜ r ≡ unitOf store word ⌝ }
 {
     match rs2(word) {
-        0b00000 => plain_of(store, Mode::UnitStride, word),
+        0b00000 => segment_of(store, Mode::UnitStride, word),
         0b01000 => whole_of(store, word),
         0b01011 => mask_of(store, word),
         _ => Instruction::Illegal,
@@ -615,8 +615,8 @@ fn memory_of(store: bool, word: u32) -> Instruction
     let field = rs2(word) as usize;
     match mop(word) {
         0b00 => unit_of(store, word),
-        0b10 => plain_of(store, Mode::Strided(field), word),
-        _ => plain_of(store, Mode::Indexed(field), word),
+        0b10 => segment_of(store, Mode::Strided(field), word),
+        _ => segment_of(store, Mode::Indexed(field), word),
     }
 }
 

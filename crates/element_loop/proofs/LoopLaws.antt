@@ -4,7 +4,10 @@ use mathlib.Core.Bool.{Bool, true, false, not, _||_, cond}
 use mathlib.Core.List.{List}
 use Prim.Native.Nat.{ℕ, _+_, _-_, _*_, _≤_, _<_, min}
 use native.Mathlib.Omega.{arith}
+use native.Mathlib.Decide.{decLt}
 use lib.ListN.{length}
+use lib.Dec.{T, ltb}
+use borrow.Author.Tests.{lt-ltb, le-ltb}
 use mir.Syntax.{w64}
 use mir.Val.{Fits}
 use Rattle.laws.proofs.Apart.{both-left, both-right}
@@ -13,10 +16,16 @@ use Rattle.control.specs.declared.Board.{Board}
 use Rattle.control.specs.declared.Control.{Control}
 use Rattle.control.specs.Control.{withVstart, withVxsat}
 use Rattle.control.proofs.Laws.{possible-apart}
+use Rattle.layout.specs.Layout.{byteSize}
 use Rattle.layout.proofs.BytesLaws.{Bytes}
 use Rattle.access.specs.declared.FaultPlace.{FaultPlace}
 use Rattle.access.specs.declared.Fault.{Fault}
+use Rattle.access.specs.declared.AccessCheck.{AccessCheck}
+use Rattle.access.specs.declared.AccessCheck.the-variants.{Granted, Faulted}
 use Rattle.access.specs.Access.{nowhere}
+use Rattle.plan.specs.declared.Action.the-variants as A
+use Rattle.plan.specs.declared.Compute.{Compute}
+use Rattle.plan.specs.declared.Transfer.{Transfer}
 use Rattle.plan.specs.declared.Elementwise.{Elementwise}
 use Rattle.plan.specs.declared.Plan.{Plan}
 use Rattle.plan.specs.declared.Plan.the-variants as P
@@ -28,43 +37,35 @@ use Rattle.turn_theory.proofs.Laws.{Passed, passed-none, passed-more, passed-tr
 use Rattle.machine.specs.declared.Turned.{Turned}
 use Rattle.machine.specs.State.{Core, State}
 use Rattle.machine.specs.Call.{given, left}
-use Rattle.machine.specs.Effect.{Write, toRegisters, toMemory, putOf, effectOf}
+use Rattle.machine.specs.Effect.{Write, saturating, effectOf}
 use Rattle.machine.specs.Machine.{semanticsOf, outcomeOf, planTurn}
 use Rattle.machine.proofs.PlanFacts.{PlanSound, plan-sound}
 use Rattle.machine.proofs.Lawful.{Facts, facts, elements-fit, lawful}
-use Rattle.execute.specs.declared.Step.{Step}
-use Rattle.execute.specs.declared.Step.the-variants as S
-use Rattle.execute.specs.Step.{stepOf, registersAfter, memoryAfter, Ready, ActionFits, coreAt, Did}
+use Rattle.execute.specs.Step.{Ready, OperandsFit, ActionFits, coreAt, checkOf, stateAfter, Did}
 use Rattle.element_loop.specs.Runnable.{Runnable}
 use Rattle.element_loop.proofs.Readiness.{Prepared, prepared}
 
--- ---- steps and effects
+-- ---- checks and effects
 
-step-fault : (f : Effect Fault Write) (x : Fault) → S.Fault x ≡ stepOf f → f ≡ fault x
-step-fault inactive x h = cc
-step-fault (fault y) x h = let p : x ≡ y = cc in rw p
-step-fault (write (toRegisters g i r)) x h = cc
-step-fault (write (toMemory m n v)) x h = cc
+check-fault : (f : Effect Fault (List Write)) (x : Fault) → Faulted x ≡ checkOf f → f ≡ fault x
+check-fault inactive x h = cc
+check-fault (fault y) x h = let p : x ≡ y = cc in rw p
+check-fault (write l) x h = cc
 
-step-next : (f : Effect Fault Write) (saturates : Bool) → S.Next saturates ≡ stepOf f → faults f ≡ false
-step-next inactive s h = refl
-step-next (fault y) s h = cc
-step-next (write w) s h = refl
+check-granted : (f : Effect Fault (List Write)) → Granted ≡ checkOf f → faults f ≡ false
+check-granted inactive h = refl
+check-granted (fault y) h = cc
+check-granted (write l) h = refl
 
 -- the control record with another vstart and vxsat
 abbrev besides : Control → ℕ → ℕ → Control
 besides c vstart vxsat = withVxsat (withVstart c vstart) vxsat
 
--- an element that is passed leaves the state by what the code says of it
-applied : (b : Board) (p : Plan) (registers memory scalars : List ℕ) (c : Control) (v vxsat : ℕ) (f : Effect Fault Write) (saturates : Bool)
-    → S.Next saturates ≡ stepOf f
-    → coreAt (registersAfter (b .vlenb) f registers) (memoryAfter f memory) scalars (besides c v (cond saturates 1 vxsat))
-    ≡ apply (semanticsOf b p) f (coreAt registers memory scalars (besides c v vxsat))
-unfolding putOf
-applied b p registers memory scalars c v vxsat inactive s h = let e : s ≡ false = cc in rw e
-applied b p registers memory scalars c v vxsat (fault y) s h = cc
-applied b p registers memory scalars c v vxsat (write (toRegisters g k r)) s h = let e : s ≡ r .saturates = cc in rw e
-applied b p registers memory scalars c v vxsat (write (toMemory a n x)) s h = let e : s ≡ false = cc in rw e
+-- an element that is passed leaves the state that the code does
+applied : (b : Board) (p : Plan) (f : Effect Fault (List Write)) (s : Core) → stateAfter (b .vlenb) f s ≡ apply (semanticsOf b p) f s
+applied b p inactive s = refl
+applied b p (fault y) s = refl
+applied b p (write l) s = refl
 
 -- ---- the loop
 
@@ -74,6 +75,25 @@ index-fits a v k remaining u h f = record { fits = omega (arith, f .fits) }
 
 pub next-index : (a v x k remaining most : ℕ) → remaining ≡ a - v → most ≡ min x remaining → k < most → Fits w64 a → Fits w64 (v + k)
 next-index a v x k remaining most u m h f = index-fits a v k remaining u (omega arith) f
+
+-- what a turn gives that no fault stops
+abbrev stopped : ℕ → ℕ → Control → ℕ → Turned
+stopped remaining passed c vxsat = record {
+  answer = cond (ltb passed remaining) Paused Finished;
+  passed = passed;
+  place = nowhere;
+  control = besides c (cond (ltb passed remaining) (c .vstart + passed) 0) vxsat;
+}
+
+module _ (remaining passed vxsat : ℕ) (c : Control) (place : FaultPlace) (r : Turned) (p : place ≡ nowhere) where
+  pub stops-paused : passed < remaining
+      → r ≡ record { answer = Paused; passed = passed; place = place; control = besides c (c .vstart + passed) vxsat }
+      → r ≡ stopped remaining passed c vxsat
+  stops-paused h q = q ∙ rw (p, lt-ltb passed remaining h)
+
+  pub stops-finished : remaining ≤ passed → r ≡ record { answer = Finished; passed = passed; place = place; control = besides c 0 vxsat }
+      → r ≡ stopped remaining passed c vxsat
+  stops-finished h q = q ∙ rw (p, le-ltb passed remaining h)
 
 -- the state of the theory while the loop runs
 abbrev coreNow : List ℕ → Control → List ℕ → List ℕ → ℕ → Core
@@ -157,64 +177,91 @@ module _ (b : Board) (e : Elementwise) (registers₀ scalars memory₀ rights : 
           → Ready (length registers) (b .vlenb) e (c .vstart + k)
       next-ready x remaining most u v h = rw file-length (next-prepared (c .vstart + k) (omega arith) .ready)
 
-      pub next-fits : (x remaining most : ℕ) → remaining ≡ e .end - c .vstart → most ≡ min x remaining → k < most
-          → ActionFits (b .vlenb) registers e (c .vstart + k) (e .action)
-      next-fits x remaining most u v h = next-prepared (c .vstart + k) (omega arith) .action registers (g .bytes)
+      pub next-operands : (x remaining most : ℕ) (o : Compute) → remaining ≡ e .end - c .vstart → most ≡ min x remaining → k < most
+          → e .action ≡ A.Compute o → OperandsFit (b .vlenb) registers e o (c .vstart + k)
+      unfolding ActionFits
+      next-operands x remaining most o u v h q =
+          subst (ActionFits (b .vlenb) registers e (c .vstart + k)) q
+          (next-prepared (c .vstart + k) (omega arith) .action registers (g .bytes))
+
+      pub next-bytes : (x remaining most : ℕ) (t : Transfer) → remaining ≡ e .end - c .vstart → most ≡ min x remaining → k < most
+          → e .action ≡ A.Transfer t → T (byteSize (t .bytes))
+      unfolding ActionFits
+      next-bytes x remaining most t u v h q =
+          subst (ActionFits (b .vlenb) registers e (c .vstart + k)) q
+          (next-prepared (c .vstart + k) (omega arith) .action registers (g .bytes))
+
+      pub stop-fits : Fits w64 (c .vstart) → Fits w64 (c .vstart + k)
+      stop-fits f = record { fits = omega (arith, the-within, end-fits .fits, f .fits) }
 
       -- one element after another, in place
-      abbrev Acts : Step → List ℕ → List ℕ → Type 0
-      Acts step registers′ memory′ =
-          (x : List ℕ) (d : Control)
-          → Did (b .vlenb) (effectOf b rights (coreAt registers memory x d) e (c .vstart + k)) registers memory step registers′ memory′
+      abbrev here : Core
+      here = coreNow scalars c registers memory vxsat
 
-      pub trap-left : (remaining most : ℕ) (step : Step) (x : Fault) (registers′ memory′ : List ℕ) (r : Turned)
+      abbrev the-effect : Effect Fault (List Write)
+      the-effect = effectOf b rights here e (c .vstart + k)
+
+      pub trap-left : (remaining most : ℕ) (check : AccessCheck) (x : Fault) (registers′ memory′ : List ℕ) (r : Turned)
           → r ≡ record { answer = x .answer; passed = k; place = x .place; control = besides c (c .vstart + k) vxsat }
-          → remaining ≡ e .end - c .vstart → most ≡ min allowance remaining → k < most → Acts step registers′ memory′ → step ≡ S.Fault x
+          → remaining ≡ e .end - c .vstart → most ≡ min allowance remaining → k < most
+          → ((y : List ℕ) (d : Control) → Did (b .vlenb) (effectOf b rights (coreAt registers memory y d) e (c .vstart + k))
+          (coreAt registers memory y d) check (coreAt registers′ memory′ y d)) → check ≡ Faulted x
           → left r registers′ scalars memory′ rights ≡ planTurn b (P.Elements e) allowance the-state
-      trap-left remaining most step x registers′ memory′ r z u v h did q =
-          let f : Effect Fault Write = effectOf b rights (coreNow scalars c registers memory vxsat) e (c .vstart + k) in
-          let d : Did (b .vlenb) f registers memory step registers′ memory′ = did scalars (besides c 0 vxsat) in
-          let p : f ≡ fault x = step-fault f x (sym q ∙ d .step) in
-          let m : registers′ ≡ registers = d .registers ∙ ap (λ (u : Effect Fault Write). registersAfter (b .vlenb) u registers) p in
-          let n : memory′ ≡ memory = d .memory ∙ ap (λ (u : Effect Fault Write). memoryAfter u memory) p in
+      trap-left remaining most check x registers′ memory′ r z u v h did q =
+          let d : Did (b .vlenb) the-effect here check (coreNow scalars c registers′ memory′ vxsat) = did scalars (besides c 0 vxsat) in
+          let p : the-effect ≡ fault x = check-fault the-effect x (sym q ∙ d .check) in
+          let s : coreNow scalars c registers′ memory′ vxsat ≡ here =
+          d .state ∙ ap (λ (f : Effect Fault (List Write)). stateAfter (b .vlenb) f here) p in
           ended _ registers′ memory′ _
-          (passed-trap J the-lawful the-turn the-point k (coreNow scalars c registers memory vxsat) (g .passed) x (omega arith) p)
-          (rw (z, m, n))
+          (passed-trap J the-lawful the-turn the-point k here (g .passed) x (omega arith) p)
+          (rw (z, ap (λ (y : Core). y .registers) s, ap (λ (y : Core). y .memory) s))
 
-      pub pause-left : (remaining most : ℕ) (r : Turned) (place : FaultPlace) → place ≡ nowhere
-          → r ≡ record { answer = Paused; passed = k; place = place; control = besides c (c .vstart + k) vxsat }
-          → remaining ≡ e .end - c .vstart → most ≡ min allowance remaining → most ≤ k → k < remaining
+      -- a pause where elements remain, a finish where none does
+      pub stop-left : (remaining most : ℕ) (r : Turned)
+          → r ≡ stopped remaining k c vxsat → remaining ≡ e .end - c .vstart → most ≡ min allowance remaining → most ≤ k
           → left r registers scalars memory rights ≡ planTurn b (P.Elements e) allowance the-state
-      pause-left remaining most r place y z u v h m =
-          ended _ registers memory _
-          (passed-pause J the-lawful the-turn the-point k (coreNow scalars c registers memory vxsat) (g .passed)
-          (omega (arith, the-within)) (omega arith))
-          (rw (z, y))
+      stop-left remaining most r z u v h = by-rest (decLt k remaining)
+        where
+          by-rest : Dec (k < remaining) → left r registers scalars memory rights ≡ planTurn b (P.Elements e) allowance the-state
+          by-rest (yes m) =
+              ended _ registers memory _
+              (passed-pause J the-lawful the-turn the-point k here (g .passed) (omega (arith, the-within)) (omega arith))
+              (rw (z, lt-ltb k remaining m))
+          by-rest (no m) =
+              ended _ registers memory _
+              (passed-finish J the-lawful the-turn the-point k here (g .passed) (omega (arith, the-within)))
+              (rw (z, le-ltb k remaining (omega arith)))
 
-      pub finish-left : (remaining : ℕ) (r : Turned) (place : FaultPlace) → place ≡ nowhere
-          → r ≡ record { answer = Finished; passed = k; place = place; control = besides c 0 vxsat }
-          → remaining ≡ e .end - c .vstart → remaining ≤ k
-          → left r registers scalars memory rights ≡ planTurn b (P.Elements e) allowance the-state
-      finish-left remaining r place y z u h =
-          ended _ registers memory _
-          (passed-finish J the-lawful the-turn the-point k (coreNow scalars c registers memory vxsat) (g .passed)
-          (omega (arith, the-within)))
-          (rw (z, y))
-
-      pub going-more : (remaining most : ℕ) (step : Step) (saturates : Bool) (registers′ memory′ : List ℕ) (vxsat′ : ℕ)
-          → remaining ≡ e .end - c .vstart → most ≡ min allowance remaining → k < most → Acts step registers′ memory′
-          → step ≡ S.Next saturates → vxsat′ ≡ cond saturates 1 vxsat
+      -- an element that is passed, from here to what it leaves
+      going-more : (remaining most : ℕ) (registers′ memory′ : List ℕ) (vxsat′ : ℕ)
+          → remaining ≡ e .end - c .vstart → most ≡ min allowance remaining → k < most
+          → Did (b .vlenb) the-effect here Granted (coreNow scalars c registers′ memory′ vxsat′)
           → Bytes registers′ → length registers′ ≡ length registers → length memory′ ≡ length memory
           → Going (k + 1) registers′ memory′ vxsat′
-      going-more remaining most step saturates registers′ memory′ vxsat′ u v h did q r y m n =
-          let s : Core = coreNow scalars c registers memory vxsat in
-          let f : Effect Fault Write = effectOf b rights s e (c .vstart + k) in
-          let d : Did (b .vlenb) f registers memory step registers′ memory′ = did scalars (besides c 0 vxsat) in
-          let t : S.Next saturates ≡ stepOf f = sym q ∙ d .step in
-          record {
-            passed = rw (d .registers, d .memory, r, applied b (P.Elements e) registers memory scalars c 0 vxsat f saturates t)
-                (passed-more J the-lawful the-turn the-point k s (g .passed) f (omega arith) refl (step-next f saturates t));
-            bytes = y;
-            registers-length = m ∙ g .registers-length;
-            memory-length = n ∙ g .memory-length;
-          }
+      going-more remaining most registers′ memory′ vxsat′ u v h d y m n = record {
+        passed = rw (d .state, applied b (P.Elements e) the-effect here)
+            (passed-more J the-lawful the-turn the-point k here (g .passed) the-effect (omega arith) refl
+            (check-granted the-effect (d .check)));
+        bytes = y;
+        registers-length = m ∙ g .registers-length;
+        memory-length = n ∙ g .memory-length;
+      }
+
+      pub computed-more : (remaining most : ℕ) (saturates : Bool) (registers′ : List ℕ) (vxsat′ : ℕ)
+          → remaining ≡ e .end - c .vstart → most ≡ min allowance remaining → k < most
+          → ((r m y : List ℕ) (d : Control) → Did (b .vlenb) (effectOf b r (coreAt registers m y d) e (c .vstart + k))
+          (coreAt registers m y d) Granted (coreAt registers′ m y (saturating saturates d)))
+          → vxsat′ ≡ cond saturates 1 vxsat → Bytes registers′ → length registers′ ≡ length registers
+          → Going (k + 1) registers′ memory vxsat′
+      computed-more remaining most saturates registers′ vxsat′ u v h did q y m =
+          rw q (going-more remaining most registers′ memory (cond saturates 1 vxsat) u v h (did rights memory scalars (besides c 0 vxsat))
+          y m refl)
+
+      pub transferred-more : (remaining most : ℕ) (check : AccessCheck) (registers′ memory′ : List ℕ)
+          → remaining ≡ e .end - c .vstart → most ≡ min allowance remaining → k < most
+          → ((y : List ℕ) (d : Control) → Did (b .vlenb) (effectOf b rights (coreAt registers memory y d) e (c .vstart + k))
+          (coreAt registers memory y d) check (coreAt registers′ memory′ y d)) → check ≡ Granted
+          → Bytes registers′ → length registers′ ≡ length registers → length memory′ ≡ length memory
+          → Going (k + 1) registers′ memory′ vxsat
+      transferred-more remaining most check registers′ memory′ u v h did q y m n =
+          going-more remaining most registers′ memory′ vxsat u v h (rw q at did scalars (besides c 0 vxsat)) y m n

@@ -32,7 +32,8 @@ use Rattle.layout.proofs.WidthLaws.{bytes-size}
 use Rattle.layout.proofs.BytesLaws.{Bytes}
 use Rattle.layout.proofs.ElementLaws.{element-lt}
 use Rattle.group.specs.declared.Group.{Group}
-use Rattle.group.specs.Group.{maskGroup, registersOf, placedOf, mayOverlapOf}
+use Rattle.group.specs.Group.{maskGroup, registersOf, fieldGroup, spanOf, placedOf, mayOverlapOf}
+use Rattle.group.proofs.GroupLaws.{placed-facts, fields-before}
 use Rattle.plan.specs.declared.Read.{Read}
 use Rattle.plan.specs.declared.Read.the-variants as R
 use Rattle.plan.specs.declared.Action.the-variants as A
@@ -40,16 +41,16 @@ use Rattle.plan.specs.declared.Transfer.{Transfer}
 use Rattle.plan.specs.declared.Elementwise.{Elementwise}
 use Rattle.plan.specs.declared.Plan.{Plan}
 use Rattle.plan.specs.declared.Plan.the-variants as P
-use Rattle.plan.specs.Plan.{groupAt, readAt, secondOf, shapedOf, computingOf, movingOf, byMode, planOf}
+use Rattle.plan.specs.Plan.{groupsAt, readAt, secondOf, shapedOf, computingOf, movingOf, byMode, planOf}
 use Rattle.legality.specs.Legal.{readFits, writesRegisters, operandsFit, isThere}
 use Rattle.plan.specs.Range.{ReadInRange, InRange, PlanFits}
 use Rattle.plan.proofs.AccessLaws.{one-of, eew-low}
 use Rattle.plan.proofs.RangeLaws.{plan-range, vs1-constant}
 use Rattle.machine.specs.Effect.{valueOf}
-use Rattle.machine.proofs.Geometry.{power-of, product-power, Power, placed-extent, placed-ends}
+use Rattle.machine.proofs.Geometry.{placed-extent}
 use Rattle.machine.proofs.PlanFacts.{Operand, constant, bit, element, OfV0, unused, used, Typed, typed-extent, legal-at, computing-typed}
 use Rattle.machine.proofs.PlanFacts.{mode-end, unit-typed, strided-typed, indexed-typed, eew-width}
-use Rattle.execute.specs.Step.{Ready, ReadInside, ActionFits}
+use Rattle.execute.specs.Step.{FieldsInside, Ready, ReadInside, ActionFits}
 
 -- ---- where elements lie
 
@@ -60,6 +61,17 @@ inside : (vlenb end : ℕ) (g : Group) (k : ℕ) → T (elementWidth (g .eew)) �
 inside vlenb end g k t m u l =
     let here : (k + 1) * g .eew ≤ end * g .eew = mul-le-mul-right (g .eew) (omega arith) in
     record { width = t; within = omega (arith, here, m, mul-le-mul-right (8 * vlenb) u) }
+
+-- of each field, and of the first alone
+fields-inside : (vlenb end : ℕ) (g : Group) (k : ℕ) → T (elementWidth (g .eew)) → end * g .eew ≤ registersOf g * (8 * vlenb)
+    → g .reg + spanOf g ≤ 32
+    → k < end → FieldsInside (32 * vlenb) vlenb g k
+fields-inside vlenb end g k t m u l f h = inside vlenb end (fieldGroup g f) k t m (omega (arith, fields-before g f h)) l
+
+first-inside : (vlenb end : ℕ) (g : Group) (k : ℕ) → T (elementWidth (g .eew)) → end * g .eew ≤ registersOf g * (8 * vlenb)
+    → g .reg + spanOf g ≤ 32
+    → k < end → Inside (32 * vlenb) vlenb (g .reg) (g .eew) k
+first-inside vlenb end g k t m u l = inside vlenb end g k t m (omega (arith, fields-before g 0 (omega arith))) l
 
 bit-inside : (vlenb reg k : ℕ) → reg < 32 → k < 8 * vlenb → Inside (32 * vlenb) vlenb reg 1 k
 bit-inside vlenb reg k u l = inside vlenb (8 * vlenb) (maskGroup reg) k tt (omega arith) (omega arith) l
@@ -75,10 +87,10 @@ read-inside : (b : Board) (v : ℕ) (e : Elementwise) (writes : Bool) (r : Read)
 unfolding ReadInside readFits
 read-inside b v e writes _ k w y l (constant n) t u = tt
 read-inside b v e writes _ k w y l (bit reg) t u = bit-inside (b .vlenb) reg k u (omega (arith, vlmax-le b v))
-read-inside b v e writes _ k w y l (element eew reg p) t u =
-    let g : Group = groupAt v eew reg in
-    let x = placed-extent b v w (y .supported) eew p reg (both-left (placedOf (b .elen) g) (not writes || mayOverlapOf (e .dest) g) t) in
-    inside (b .vlenb) (vlmaxOf b v) g k (x .width) (x .within) (x .ends u) l
+read-inside b v e writes _ k w y l (element eew reg nf p z) t u =
+    let g : Group = groupsAt v eew reg nf in
+    let x = placed-extent b v w (y .supported) eew p reg nf (both-left (placedOf (b .elen) g) (not writes || mayOverlapOf (e .dest) g) t) in
+    first-inside (b .vlenb) (vlmaxOf b v) g k (x .width) (x .within) (x .ends u) l
 
 typed-ready : (b : Board) (v : ℕ) (e : Elementwise) (k : ℕ) → Valid b → Typed b v e → operandsFit (b .elen) e ≡ true → InRange e
     → k < e .end → Ready (32 * b .vlenb) (b .vlenb) e k
@@ -88,7 +100,8 @@ typed-ready b v e k w y h u l =
     let most : k < vlmaxOf b v = omega (arith, y .end) in
     let bits : k < 8 * b .vlenb = omega (arith, vlmax-le b v) in
     record {
-      dest = inside (b .vlenb) (vlmaxOf b v) (e .dest) k (x .width) (x .within) (x .ends (u .dest)) most;
+      dest = fields-inside (b .vlenb) (vlmaxOf b v) (e .dest) k (x .width) (x .within) (x .ends (u .dest)) most;
+      ends = x .ends (u .dest);
       vs2 = read-inside b v e (writesRegisters (e .action)) (e .vs2) k w y most (y .vs2) (f .vs2) (u .vs2);
       vs1 = read-inside b v e (writesRegisters (e .action)) (e .vs1) k w y most (y .vs1) (f .vs1) (u .vs1);
       vd = read-inside b v e (writesRegisters (e .action)) (e .vd) k w y most (y .vd) (f .vd) (u .vd);
@@ -104,29 +117,34 @@ if-inside : (size vlenb : ℕ) (t : Bool) (g : Group) (k : ℕ) → Inside size 
 unfolding ReadInside
 if-inside size vlenb t g k h = either (λ r. ReadInside size vlenb r k) t (R.Element g) (R.Constant 0) (λ e. h) (λ e. tt)
 
-alone-ready : (b : Board) (a : Access) (typed : Bool) (g : Group) (z : Transfer) (end k : ℕ)
-    → Inside (32 * b .vlenb) (b .vlenb) (g .reg) (g .eew) k → k < 8 * b .vlenb
+alone-ready : (b : Board) (a : Access) (typed : Bool) (g : Group) (z : Transfer) (end k : ℕ) → T (elementWidth (g .eew))
+    → end * g .eew ≤ registersOf g * (8 * b .vlenb) → g .reg + spanOf g ≤ 32 → k < end → k < 8 * b .vlenb
     → Ready (32 * b .vlenb) (b .vlenb) (movingOf a typed g (R.Constant 0) z end) k
 unfolding movingOf ReadInside
-alone-ready b a typed g z end k h l =
-    record { dest = h; vs2 = tt; vs1 = tt; vd = if-inside _ _ (a .store) g k h; v0 = tt; mask = bit-inside (b .vlenb) 0 k (lit< tt) l }
+alone-ready b a typed g z end k t m u l o = record {
+  dest = fields-inside (b .vlenb) end g k t m u l;
+  ends = u;
+  vs2 = tt;
+  vs1 = tt;
+  vd = if-inside _ _ (z .store) g k (first-inside (b .vlenb) end g k t m u l);
+  v0 = tt;
+  mask = bit-inside (b .vlenb) 0 k (lit< tt) o;
+}
 
 module _ (b : Board) (x : List ℕ) (c : Control) (a : Access) (w : Valid b) (t : Possible b c) (f : AccessFits a) (k : ℕ) where
-  whole-inside : (n : ℕ) → ModeFits (M.Whole n) → operandsFit (b .elen) (byMode b x c a (M.Whole n)) ≡ true
-      → k < n * (8 * b .vlenb) / a .eew → Inside (32 * b .vlenb) (b .vlenb) (a .vd) (a .eew) k
+  whole-ready : (n : ℕ) → ModeFits (M.Whole n) → operandsFit (b .elen) (byMode b x c a (M.Whole n)) ≡ true
+      → k < byMode b x c a (M.Whole n) .end → k < 8 * b .vlenb → Ready (32 * b .vlenb) (b .vlenb) (byMode b x c a (M.Whole n)) k
   unfolding byMode movingOf
-  whole-inside n m h l =
-      let g : Group = record { reg = a .vd; eew = a .eew; emul8 = 8 * n } in
+  whole-ready n m h l o =
+      let g : Group = record { reg = a .vd; eew = a .eew; emul8 = 8 * n; nf = 0 } in
       let some : 1 ≤ n = one-of (λ i. 1 ≤ i) 1 2 4 8 (omega arith) (omega arith) (omega arith) (omega arith) n m in
       let all : registersOf g ≡ n = omega arith in
-      let p : Power (8 * n) =
-      product-power 8 n (power-of 3) (one-of Power 1 2 4 8 (power-of 0) (power-of 1) (power-of 2) (power-of 3) n m) in
       let placed : placedOf (b .elen) g ≡ true =
       ⊎-elim (λ e. absurd (omega (arith, eqb-true (a .eew) 1 e, eew-low a f))) (λ q. q)
       (or-cases (eqb (a .eew) 1) _ (legal-at (b .elen) (byMode b x c a (M.Whole n)) h .dest)) in
-      inside (b .vlenb) (n * (8 * b .vlenb) / a .eew) g k (eew-width a f)
+      alone-ready b a _ g _ (n * (8 * b .vlenb) / a .eew) k (eew-width a f)
       (omega (arith, div-mul-le-self (n * (8 * b .vlenb)) (a .eew), ap (λ (i : ℕ). i * (8 * b .vlenb)) all))
-      (placed-ends (b .elen) g p placed (f .vd)) l
+      (placed-facts (b .elen) g placed .ends) l o
 
   mode-ready : (m : Mode) → ModeFits m → InRange (byMode b x c a m) → operandsFit (b .elen) (byMode b x c a m) ≡ true
       → k < byMode b x c a m .end → k < 8 * b .vlenb → Ready (32 * b .vlenb) (b .vlenb) (byMode b x c a m) k
@@ -135,9 +153,9 @@ module _ (b : Board) (x : List ℕ) (c : Control) (a : Access) (w : Valid b) (t 
   mode-ready (M.Strided r) n u h l o = typed-ready b (c .vtype) _ k w (strided-typed b x c a w t f r (omega arith)) h u l
   mode-ready (M.Indexed r) n u h l o = typed-ready b (c .vtype) _ k w (indexed-typed b x c a w t f r (omega arith)) h u l
   mode-ready M.MaskBytes n u h l o =
-      let g : Group = record { reg = a .vd; eew = 8; emul8 = 8 } in
-      alone-ready b a _ g _ _ k (inside (b .vlenb) (b .vlenb) g k tt (omega arith) (omega (arith, f .vd)) (omega (arith, t .vl))) o
-  mode-ready (M.Whole r) n u h l o = alone-ready b a _ _ _ _ k (whole-inside r n h l) o
+      let g : Group = record { reg = a .vd; eew = 8; emul8 = 8; nf = 0 } in
+      alone-ready b a _ g _ _ k tt (omega (arith, t .vl)) (omega (arith, f .vd)) l o
+  mode-ready (M.Whole r) n u h l o = whole-ready r n h l o
 
 -- ---- what the operands of an operation hold
 
@@ -185,21 +203,14 @@ computing-fits b x c a y f t file u k =
 
 -- ---- the size of an element that is moved
 
-moved-fits : (vlenb : ℕ) (file : List ℕ) (e : Elementwise) (k : ℕ) (p : Bool) (t : Transfer) → T (byteSize (t .bytes))
-    → ActionFits vlenb file e k (cond p (A.Store t) (A.Load t))
-unfolding ActionFits
-moved-fits vlenb file e k true t h = h
-moved-fits vlenb file e k false t h = h
-
 mode-fits : (b : Board) (x : List ℕ) (c : Control) (a : Access) (m : Mode) (file : List ℕ) (k : ℕ) → AccessFits a
     → T (elementWidth (byMode b x c a m .dest .eew)) → ActionFits (b .vlenb) file (byMode b x c a m) k (byMode b x c a m .action)
-unfolding byMode movingOf
-mode-fits b x c a M.UnitStride file k f t = moved-fits _ file _ k (a .store) _ (bytes-size (a .eew) t (omega (arith, eew-low a f)))
-mode-fits b x c a (M.Strided r) file k f t = moved-fits _ file _ k (a .store) _ (bytes-size (a .eew) t (omega (arith, eew-low a f)))
-mode-fits b x c a (M.Indexed r) file k f t =
-    moved-fits _ file _ k (a .store) _ (bytes-size (sewOf (c .vtype)) t (omega (arith, sew-ge (c .vtype))))
-mode-fits b x c a M.MaskBytes file k f t = moved-fits _ file _ k (a .store) _ tt
-mode-fits b x c a (M.Whole n) file k f t = moved-fits _ file _ k (a .store) _ (bytes-size (a .eew) t (omega (arith, eew-low a f)))
+unfolding byMode movingOf ActionFits
+mode-fits b x c a M.UnitStride file k f t = bytes-size (a .eew) t (omega (arith, eew-low a f))
+mode-fits b x c a (M.Strided r) file k f t = bytes-size (a .eew) t (omega (arith, eew-low a f))
+mode-fits b x c a (M.Indexed r) file k f t = bytes-size (sewOf (c .vtype)) t (omega (arith, sew-ge (c .vtype)))
+mode-fits b x c a M.MaskBytes file k f t = tt
+mode-fits b x c a (M.Whole n) file k f t = bytes-size (a .eew) t (omega (arith, eew-low a f))
 
 -- ---- the plan of a decoded word
 
@@ -223,7 +234,7 @@ module _ (b : Board) (x : List ℕ) (c : Control) (w : Valid b) (t : Possible b 
       → PlanPrepared b k (P.Elements (byMode b x c a (a .mode)))
   moving-prepared a f u q h l =
       let r = mode-ready b x c a w t f k (a .mode) (f .mode) u h l (omega (arith, mode-end b x c a w t f (a .mode) (f .mode))) in
-      record { ready = r; action = λ file z. mode-fits b x c a (a .mode) file k f (r .dest .width) }
+      record { ready = r; action = λ file z. mode-fits b x c a (a .mode) file k f (r .dest 0 (omega arith) .width) }
 
   every-plan : (i : Instruction) → Fits i → PlanFits (planOf b x c i) → PlanPrepared b k (planOf b x c i)
   unfolding planOf

@@ -1,20 +1,29 @@
-// The loop over the elements of one turn.
+// The loops over the elements of one turn.
 ghost use mathlib.Core.Path.{_≡_};
 ghost use mathlib.Core.Bool.{cond};
-ghost use Prim.Native.Nat.{_-_};
+ghost use Prim.Native.Nat.{_+_, _-_};
+ghost use lib.Dec.{ltb};
+ghost use mir.Syntax.{w64};
+ghost use mir.Val.{Fits};
+ghost use Rattle.answer.specs.declared.Answer.the-variants.{Finished, Paused};
 ghost use Rattle.control.specs.Control.{withVstart, withVxsat};
+ghost use Rattle.access.specs.Access.{nowhere};
+ghost use Rattle.plan.specs.declared.Action.the-variants as Act;
 ghost use Rattle.plan.specs.declared.Plan.the-variants as P;
 ghost use Rattle.machine.specs.Call.{given, left};
 ghost use Rattle.machine.specs.Machine.{planTurn};
 ghost use Rattle.element_loop.specs.Runnable.{Runnable};
+use access::AccessCheck;
 use access::Fault;
 use access::FaultPlace;
 use answer::Answer;
 use control::Board;
 use control::Control;
-use execute::Step;
 use machine::Turned;
+use plan::Action;
+use plan::Compute;
 use plan::Elementwise;
+use plan::Transfer;
 
 // What a turn gives that leaves the control record with another vstart and vxsat.
 fn ended(
@@ -65,7 +74,97 @@ fn saturated(vxsat: u64, saturates: bool) -> u64
     if saturates { 1 } else { vxsat }
 }
 
-// The elements of a legal plan, upward from vstart: as many as the smaller of allowance and remaining, or those before the first fault.
+// What a turn gives that no fault stops: it finishes where none of the elements remains.
+fn stopped(remaining: u64, passed: u64, c: Control, vxsat: u64) -> Turned
+    requires { ⌜ Fits w64 (c .vstart + passed) ⌝ }
+    ensures { λ r. ⌜
+        r ≡ record {
+          answer = cond (ltb passed remaining) Paused Finished;
+          passed = passed;
+          place = nowhere;
+          control = withVxsat (withVstart c (cond (ltb passed remaining) (c .vstart + passed) 0)) vxsat;
+        } ⌝ }
+{
+    let place = FaultPlace::nowhere();
+    if passed < remaining {
+        let next = c.vstart + passed;
+        return ended(Answer::Paused, passed, place, c, next, vxsat);
+    }
+    ended(Answer::Finished, passed, place, c, 0, vxsat)
+}
+
+// The elements of a legal plan that computes, upward from vstart: as many as the smaller of allowance and remaining.
+fn computed(
+    board: Board,
+    registers: &mut [u8],
+    scalars: &[u64],
+    memory: &[u8],
+    rights: &[u8],
+    control: Control,
+    allowance: u64,
+    e: Elementwise,
+    operation: Compute,
+) -> Turned
+    requires { ⌜
+        Runnable board (given (now registers) (now scalars) (now memory) (now rights) control) e
+        × (e .action ≡ Act.Compute operation) ⌝ }
+    ensures { λ r. ⌜
+        left r (now (registers .exit)) (now (scalars .entry)) (now (memory .entry)) (now (rights .entry))
+        ≡ planTurn board (P.Elements e) allowance
+        (given (now (registers .entry)) (now (scalars .entry)) (now (memory .entry)) (now (rights .entry)) control) ⌝ }
+{
+    let vstart = control.vstart;
+    let remaining = less(e.end, vstart);
+    let most = control::smaller(allowance, remaining);
+    let mut vxsat = control.vxsat;
+    let mut k: u64 = 0;
+    while k < most {
+        let i = (vstart + k) as usize;
+        vxsat = saturated(
+            vxsat,
+            execute::compute_element(registers, board, e, operation, i),
+        );
+        k += 1;
+    }
+    stopped(remaining, k, control, vxsat)
+}
+
+// The elements of a legal load or store: likewise, or those before the first fault.
+fn transferred(
+    board: Board,
+    registers: &mut [u8],
+    scalars: &[u64],
+    memory: &mut [u8],
+    rights: &[u8],
+    control: Control,
+    allowance: u64,
+    e: Elementwise,
+    t: Transfer,
+) -> Turned
+    requires { ⌜
+        Runnable board (given (now registers) (now scalars) (now memory) (now rights) control) e
+        × (e .action ≡ Act.Transfer t) ⌝ }
+    ensures { λ r. ⌜
+        left r (now (registers .exit)) (now (scalars .entry)) (now (memory .exit)) (now (rights .entry))
+        ≡ planTurn board (P.Elements e) allowance
+        (given (now (registers .entry)) (now (scalars .entry)) (now (memory .entry)) (now (rights .entry)) control) ⌝ }
+{
+    let vstart = control.vstart;
+    let remaining = less(e.end, vstart);
+    let most = control::smaller(allowance, remaining);
+    let vxsat = control.vxsat;
+    let mut k: u64 = 0;
+    while k < most {
+        let i = (vstart + k) as usize;
+        match execute::transfer_element(registers, memory, rights, board, e, t, i) {
+            AccessCheck::Faulted(fault) => return trapped(fault, k, control, vstart + k, vxsat),
+            AccessCheck::Granted => k += 1,
+        }
+    }
+    stopped(remaining, k, control, vxsat)
+}
+
+// The elements of a legal plan.
 pub fn elements(
     board: Board,
     registers: &mut [u8],
@@ -82,25 +181,29 @@ pub fn elements(
         ≡ planTurn board (P.Elements e) allowance
         (given (now (registers .entry)) (now (scalars .entry)) (now (memory .entry)) (now (rights .entry)) control) ⌝ }
 {
-    let vstart = control.vstart;
-    let remaining = less(e.end, vstart);
-    let most = control::smaller(allowance, remaining);
-    let mut vxsat = control.vxsat;
-    let mut k: u64 = 0;
-    while k < most {
-        let step = execute::perform(registers, memory, rights, board, e, (vstart + k) as usize);
-        match step {
-            Step::Fault(fault) => return trapped(fault, k, control, vstart + k, vxsat),
-            Step::Next(saturates) => {
-                vxsat = saturated(vxsat, saturates);
-                k += 1;
-            }
-        }
+    let action = e.action;
+    match action {
+        Action::Compute(operation) => computed(
+            board,
+            registers,
+            scalars,
+            memory,
+            rights,
+            control,
+            allowance,
+            e,
+            operation,
+        ),
+        Action::Transfer(t) => transferred(
+            board,
+            registers,
+            scalars,
+            memory,
+            rights,
+            control,
+            allowance,
+            e,
+            t,
+        ),
     }
-    let place = FaultPlace::nowhere();
-    if k < remaining {
-        let next = vstart + k;
-        return ended(Answer::Paused, k, place, control, next, vxsat);
-    }
-    ended(Answer::Finished, k, place, control, 0, vxsat)
 }

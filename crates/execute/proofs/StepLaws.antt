@@ -1,36 +1,40 @@
--- Operands by where they come from, and an element by what it comes to: masked off, faulted, loaded, stored or computed.
-use mathlib.Core.Path.{_≡_, refl, sym, subst, _∙_}
+-- Operands by where they come from, and an element by what it comes to: masked off, faulted, moved field by field, or computed.
+use mathlib.Core.Path.{_≡_, refl, sym, ap, subst, _∙_}
 use mathlib.Core.Bool.{Bool, true, false, not, _&&_, cond}
-use mathlib.Core.List.{List}
-use Prim.Native.Nat.{ℕ, _+_, _-_, _%_, _≤_}
+use mathlib.Core.List.{List, [], _∷_}
+use Prim.Native.Nat.{ℕ, zero, suc, _+_, _-_, _*_, _%_, _^_, _≤_, _<_}
+use native.Mathlib.Numerals.{add-one}
 use native.Mathlib.Omega.{arith}
+use native.Mathlib.Nat.{mod-eq-of-lt, mul-le-mul-right}
 use lib.ListN.{length, getD}
 use lib.Dec.{T, leb, eqb}
+use mir.Syntax.{w64}
+use mir.Val.{Fits}
 use borrow.Author.Tests.{leb-true, not-true, not-false}
 use Rattle.answer.specs.declared.Answer.the-variants.{TwoPages}
 use Rattle.fixed.specs.declared.Element.{Element}
-use Rattle.fixed.specs.Round.{exact}
 use Rattle.alu.specs.Element.{elementOf}
 use Rattle.control.specs.declared.Board.{Board}
+use Rattle.control.specs.declared.Control.{Control}
 use Rattle.group.specs.declared.Group.{Group}
-use Rattle.layout.specs.Layout.{bytesAt, withBytes, withElement, byteSize}
+use Rattle.group.specs.Group.{registersOf, nfields, fieldGroup, spanOf}
+use Rattle.layout.specs.Layout.{bytesAt, withBytes, elementAt, withElement, Inside}
+use Rattle.layout.proofs.BytesLaws.{length-withBytes}
+use Rattle.layout.proofs.ElementLaws.{length-withElement}
 use Rattle.access.specs.declared.Fault.{Fault}
 use Rattle.access.specs.declared.AccessCheck.{AccessCheck}
 use Rattle.access.specs.declared.AccessCheck.the-variants.{Granted, Faulted}
-use Rattle.access.specs.Access.{faultAt, pageOf, needed, misaligned, denied, accessOf}
+use Rattle.access.specs.Access.{faultAt, pageOf, needed, misaligned, denied, accessOf, fieldAddress, orNext, fieldsAccess}
 use Rattle.plan.specs.declared.Read.{Read}
 use Rattle.plan.specs.declared.Action.{Action}
-use Rattle.plan.specs.declared.Action.the-variants as A
 use Rattle.plan.specs.declared.Compute.{Compute}
 use Rattle.plan.specs.declared.Transfer.{Transfer}
 use Rattle.plan.specs.declared.Elementwise.{Elementwise}
 use Rattle.turn_theory.specs.Turn.{Effect, write}
 use Rattle.machine.specs.State.{Core}
-use Rattle.machine.specs.Effect.{Write, toRegisters, toMemory, valueOf, activeOf}
-use Rattle.machine.specs.Effect.{elementAddress, ifGranted, loading, storing, actingOf, effectOf}
-use Rattle.execute.specs.declared.Step.{Step}
-use Rattle.execute.specs.declared.Step.the-variants as S
-use Rattle.execute.specs.Step.{ReadInside, OperandsFit, ActionFits, Did}
+use Rattle.machine.specs.Effect.{Write, toRegisters, saturating, putOf, putAll, valueOf, activeOf, elementAddress, ifGranted}
+use Rattle.machine.specs.Effect.{eachField, fieldWrite, computing, transferring, actingOf, effectOf}
+use Rattle.execute.specs.Step.{ReadInside, FieldsInside, coreAt, Did}
 
 -- ---- operands
 
@@ -40,18 +44,15 @@ read-inside size vlenb i read v e h = rw e at h
 pub value-of : (vlenb i r : ℕ) (file : List ℕ) (read v : Read) → read ≡ v → r ≡ valueOf vlenb file v i → r ≡ valueOf vlenb file read i
 value-of vlenb i r file read v e p = rw e p
 
--- ---- accesses
+-- ---- accesses that are granted lie inside memory
 
 never : {A : Type 0} (f : Fault) → Faulted f ≡ Granted → A
 never f h = absurd (let z : _≡_ {A = ℕ} 0 1 = cc in omega arith)
 
--- an element whose access is granted lies inside memory
-pub granted-inside : (rights : List ℕ) (memory : ℕ) (store : Bool) (a n : ℕ) (v : AccessCheck) → v ≡ accessOf rights memory store a n
-    → v ≡ Granted
-    → a + n ≤ memory
+granted-inside : (rights : List ℕ) (memory : ℕ) (store : Bool) (a n : ℕ) → accessOf rights memory store a n ≡ Granted → a + n ≤ memory
 unfolding accessOf
-granted-inside rights memory store a n v p q =
-    go (not (eqb (a % n) 0)) (not (eqb (pageOf a) (pageOf (a + n - 1)))) (leb (a + n) memory) refl (sym p ∙ q)
+granted-inside rights memory store a n h =
+    go (not (eqb (a % n) 0)) (not (eqb (pageOf a) (pageOf (a + n - 1)))) (leb (a + n) memory) refl h
   where
     go : (odd pages inside : Bool) → leb (a + n) memory ≡ inside
         → cond odd (faultAt (misaligned store) a) (cond pages (faultAt TwoPages a)
@@ -62,79 +63,217 @@ granted-inside rights memory store a n v p q =
     go false false false e h = never _ h
     go false false true e h = leb-true (a + n) memory e
 
-module _ (vlenb n a : ℕ) (rights file memory : List ℕ) where
-  pub faulted : (store : Bool) (w : Effect Fault Write) (v : AccessCheck) (f : Fault)
-      → v ≡ accessOf rights (length memory) store a n → v ≡ Faulted f
-      → Did vlenb (ifGranted (accessOf rights (length memory) store a n) w) file memory (S.Fault f) file memory
-  faulted store w v f p q =
-      let h : accessOf rights (length memory) store a n ≡ Faulted f = cc in
-      record { step = rw h; registers = rw h; memory = rw h }
+granted-first : (v w : AccessCheck) → orNext v w ≡ Granted → v ≡ Granted
+granted-first Granted w h = refl
+granted-first (Faulted f) w h = h
 
-  pub loaded : (g : Group) (i x : ℕ) (v : AccessCheck) (file′ : List ℕ)
-      → v ≡ accessOf rights (length memory) false a n → v ≡ Granted
-      → x ≡ bytesAt memory a n → file′ ≡ withElement vlenb file (g .reg) (g .eew) i x
-      → Did vlenb (ifGranted (accessOf rights (length memory) false a n) (write (toRegisters g i (exact (bytesAt memory a n)))))
-      file memory (S.Next false) file′ memory
-  loaded g i x v file′ p q r l =
-      let h : accessOf rights (length memory) false a n ≡ Granted = cc in
-      record { step = rw h; registers = rw (h, ← r) l; memory = rw h }
+granted-next : (v w : AccessCheck) → orNext v w ≡ Granted → w ≡ Granted
+granted-next Granted w h = h
+granted-next (Faulted f) w h = never f h
 
-  pub stored : (x : ℕ) (v : AccessCheck) (memory′ : List ℕ)
-      → v ≡ accessOf rights (length memory) true a n → v ≡ Granted → memory′ ≡ withBytes memory a n x
-      → Did vlenb (ifGranted (accessOf rights (length memory) true a n) (write (toMemory a n x))) file memory (S.Next false) file memory′
-  stored x v memory′ p q l =
-      let h : accessOf rights (length memory) true a n ≡ Granted = cc in
-      record { step = rw h; registers = rw h; memory = rw h l }
+module _ (rights : List ℕ) (memory : ℕ) (store : Bool) (a n : ℕ) (m : memory ≤ 65536) where
+  field-here : (k : ℕ) (next : AccessCheck) → a + k * n < 2 ^ 64
+      → orNext (accessOf rights memory store (fieldAddress a n k) n) next ≡ Granted → a + k * n + n ≤ memory
+  field-here k next l h =
+      let here : fieldAddress a n k + n ≤ memory =
+      granted-inside rights memory store (fieldAddress a n k) n (granted-first _ next h) in
+      let plain : fieldAddress a n k ≡ a + k * n = mod-eq-of-lt l in
+      omega (arith, here, plain)
 
--- by the address, and the value of a store, as they were worked out
-module _ (vlenb : ℕ) (rights file memory file′ memory′ : List ℕ) (s : Core) (t : Transfer) (r : Step) (a i o p : ℕ)
-    (e : o ≡ p) (h : a ≡ elementAddress t i o) where
-  pub loads-from : (w : Elementwise)
-      → Did vlenb (loading rights s w t i a) file memory r file′ memory′
-      → Did vlenb (loading rights s w t i (elementAddress t i p)) file memory r file′ memory′
-  loads-from w d = rw (h, e) at d
+  -- no field's address wraps where all are granted
+  fields-inside : (k others : ℕ) → a + k * n < 2 ^ 64 → fieldsAccess rights memory store a n k (suc others) ≡ Granted
+      → a + (k + suc others) * n ≤ memory
+  unfolding fieldsAccess
+  fields-inside k zero l h = omega (arith, field-here k _ l h)
+  fields-inside k (suc others) l h =
+      omega (
+        arith,
+        fields-inside (suc k) others (omega (arith, field-here k _ l h))
+            (granted-next (accessOf rights memory store (fieldAddress a n k) n) _ h),
+      )
 
-  pub stores-to : (x y : ℕ) → x ≡ y
-      → Did vlenb (storing rights s t x a) file memory r file′ memory′
-      → Did vlenb (storing rights s t y (elementAddress t i p)) file memory r file′ memory′
-  stores-to x y g d = rw (h, e, g) at d
+  pub segment-inside : (nf : ℕ) (v : AccessCheck) → Fits w64 a → v ≡ fieldsAccess rights memory store a n 0 (suc nf) → v ≡ Granted
+      → a + suc nf * n ≤ memory
+  segment-inside nf v f p q = omega (arith, fields-inside 0 nf (omega (arith, f .fits)) (sym p ∙ q))
+
+-- ---- the fields of an element, one after the other
+
+pub first-inside : (size vlenb : ℕ) (g : Group) (i : ℕ) → FieldsInside size vlenb g i → Inside size vlenb (g .reg) (g .eew) i
+first-inside size vlenb g i f =
+    let z : fieldGroup g 0 .reg ≡ g .reg = omega arith in subst (λ (reg : ℕ). Inside size vlenb reg (g .eew) i) z (f 0 (omega arith))
+
+-- one field, by what it is
+pub kept-on-store : {A : Type 0} (store : Bool) (x y : A) → store ≡ true → x ≡ cond store x y
+kept-on-store store x y e = rw e
+
+pub kept-on-load : {A : Type 0} (store : Bool) (x y : A) → store ≡ false → y ≡ cond store x y
+kept-on-load store x y e = rw e
+
+pub field-stored : (store : Bool) (vlenb reg eew i a n x : ℕ) (file memory memory′ : List ℕ) → store ≡ true
+    → x ≡ elementAt vlenb file reg eew i → memory′ ≡ withBytes memory a n x
+    → memory′ ≡ cond store (withBytes memory a n (elementAt vlenb file reg eew i)) memory
+field-stored store vlenb reg eew i a n x file memory memory′ e p q = rw (e, ← p) q
+
+pub field-loaded : (store : Bool) (vlenb reg eew i a n x : ℕ) (file memory file′ : List ℕ) → store ≡ false
+    → x ≡ bytesAt memory a n → file′ ≡ withElement vlenb file reg eew i x
+    → file′ ≡ cond store file (withElement vlenb file reg eew i (bytesAt memory a n))
+field-loaded store vlenb reg eew i a n x file memory file′ e p q = rw (e, ← p) q
+
+-- what one field of a load or a store leaves
+module _ (vlenb : ℕ) (file₀ memory₀ file memory file′ memory′ : List ℕ) (store : Bool) (g : Group) (n i a k reg field : ℕ)
+    (p : reg ≡ fieldGroup g k .reg) (q : field ≡ a + k * n) (l : a + k * n < 2 ^ 64)
+    (r : file′ ≡ cond store file (withElement vlenb file reg (g .eew) i (bytesAt memory field n)))
+    (s : memory′ ≡ cond store (withBytes memory field n (elementAt vlenb file reg (g .eew) i)) memory) where
+  put-moved : (store ≡ true → file ≡ file₀) → (store ≡ false → memory ≡ memory₀) → (x : List ℕ) (c : Control)
+      → putOf vlenb (fieldWrite vlenb file₀ memory₀ store g n i a k) (coreAt file memory x c) ≡ coreAt file′ memory′ x c
+  unfolding putOf valueOf
+  put-moved f h x c = go store refl
+    where
+      plain : fieldAddress a n k ≡ field
+      plain = mod-eq-of-lt l ∙ sym q
+
+      go : (t : Bool) → store ≡ t
+          → putOf vlenb (fieldWrite vlenb file₀ memory₀ store g n i a k) (coreAt file memory x c) ≡ coreAt file′ memory′ x c
+      go true e = rw (r, s, e, plain, f e, p)
+      go false e = rw (r, s, e, plain, h e, p)
+
+-- while fields are moved: k of them have been
+module _ (vlenb : ℕ) (file₀ memory₀ : List ℕ) (store : Bool) (g : Group) (n i a : ℕ) where
+  abbrev writes : ℕ → ℕ → List Write
+  writes k others = eachField (fieldWrite vlenb file₀ memory₀ store g n i a) k others
+
+  pub record Moving (file memory : List ℕ) (reg field k : ℕ) : Type 0 where
+    pub most : k ≤ nfields g
+    pub register : reg ≡ fieldGroup g k .reg
+    pub address : field ≡ a + k * n
+    pub file-length : length file ≡ length file₀
+    pub memory-length : length memory ≡ length memory₀
+    pub file-kept : store ≡ true → file ≡ file₀
+    pub memory-kept : store ≡ false → memory ≡ memory₀
+    -- the others, from here, give what all give
+    pub rest : (x : List ℕ) (c : Control)
+        → putAll vlenb (writes k (nfields g - k)) (coreAt file memory x c) ≡ putAll vlenb (writes 0 (nfields g)) (coreAt file₀ memory₀ x c)
+
+  pub moving-none : Moving file₀ memory₀ (g .reg) a 0
+  moving-none = record {
+    most = omega arith;
+    register = omega arith;
+    address = omega arith;
+    file-length = refl;
+    memory-length = refl;
+    file-kept = λ e. refl;
+    memory-kept = λ e. refl;
+    rest = λ x c. let all : nfields g - 0 ≡ nfields g = omega arith in rw all;
+  }
+
+  first-moved : (k others : ℕ) (s s′ : Core) → putOf vlenb (fieldWrite vlenb file₀ memory₀ store g n i a k) s ≡ s′
+      → putAll vlenb (writes k (suc others)) s ≡ putAll vlenb (writes (suc k) others) s′
+  unfolding putAll eachField
+  first-moved k others s s′ e = ap (putAll vlenb (writes (suc k) others)) e
+
+  module _ (file memory : List ℕ) (reg field k : ℕ) (z : Moving file memory reg field k) (l : k ≤ g .nf) where
+    pub moving-more : (file′ memory′ : List ℕ) (step : ℕ) → length memory₀ ≤ 65536 → a + nfields g * n ≤ length memory₀
+        → file′ ≡ cond store file (withElement vlenb file reg (g .eew) i (bytesAt memory field n))
+        → memory′ ≡ cond store (withBytes memory field n (elementAt vlenb file reg (g .eew) i)) memory
+        → step ≡ registersOf g → Moving file′ memory′ (reg + step) (field + n) (k + 1)
+    moving-more file′ memory′ step t u r s p = record {
+      most = omega arith;
+      register = omega (arith, p, z .register);
+      address = omega (arith, z .address);
+      file-length = r-length store r ∙ z .file-length;
+      memory-length = s-length store s ∙ z .memory-length;
+      file-kept = λ e. r ∙ rw e (z .file-kept e);
+      memory-kept = λ e. s ∙ rw e (z .memory-kept e);
+      rest = λ x c. sym (rw (more, less, add-one)
+          (first-moved k (g .nf - k) (coreAt file memory x c) (coreAt file′ memory′ x c) (moved x c))) ∙ z .rest x c;
+    } where
+      more : nfields g - k ≡ suc (g .nf - k)
+      more = omega arith
+
+      less : nfields g - (k + 1) ≡ g .nf - k
+      less = omega arith
+
+      within : a + k * n < 2 ^ 64
+      within = omega (arith, mul-le-mul-right n l)
+
+      moved : (x : List ℕ) (c : Control)
+          → putOf vlenb (fieldWrite vlenb file₀ memory₀ store g n i a k) (coreAt file memory x c) ≡ coreAt file′ memory′ x c
+      moved =
+          put-moved vlenb file₀ memory₀ file memory file′ memory′ store g n i a k reg field (z .register) (z .address) within r s
+          (z .file-kept) (z .memory-kept)
+
+      r-length : (t : Bool) → file′ ≡ cond t file (withElement vlenb file reg (g .eew) i (bytesAt memory field n))
+          → length file′ ≡ length file
+      r-length true e = rw e
+      r-length false e = rw e (length-withElement vlenb file reg (g .eew) i (bytesAt memory field n))
+
+      s-length : (t : Bool) → memory′ ≡ cond t (withBytes memory field n (elementAt vlenb file reg (g .eew) i)) memory
+          → length memory′ ≡ length memory
+      s-length true e = rw e (length-withBytes memory field n (elementAt vlenb file reg (g .eew) i))
+      s-length false e = rw e
+
+    pub moving-inside : FieldsInside (length file₀) vlenb g i → Inside (length file) vlenb reg (g .eew) i
+    moving-inside f = rw (z .file-length, z .register) (f k l)
+
+    pub moving-room : a + nfields g * n ≤ length memory₀ → field + n ≤ length memory
+    moving-room u = omega (arith, z .memory-length, z .address, mul-le-mul-right n l)
+
+    pub register-fits : (r : ℕ) → g .reg + spanOf g ≤ 32 → r ≡ registersOf g → Fits w64 (reg + r)
+    register-fits r u e = record { fits = omega (arith, z .register, mul-le-mul-right (registersOf g) l) }
+
+    pub field-fits : length memory₀ ≤ 65536 → a + nfields g * n ≤ length memory₀ → Fits w64 (field + n)
+    field-fits h u = record { fits = omega (arith, z .memory-length, moving-room u) }
+
+  pub moving-done : (file memory : List ℕ) (reg field k : ℕ) → Moving file memory reg field k → g .nf < k → (x : List ℕ) (c : Control)
+      → coreAt file memory x c ≡ putAll vlenb (writes 0 (nfields g)) (coreAt file₀ memory₀ x c)
+  unfolding putAll eachField
+  moving-done file memory reg field k z l x c = let none : nfields g - k ≡ 0 = omega arith in sym (rw none) ∙ z .rest x c
 
 -- ---- elements
 
-pub computed : (vlenb i a a′ b b′ d d′ c c′ : ℕ) (file memory file′ : List ℕ) (g : Group) (k : Compute) (r : Element)
-    → a ≡ a′ → b ≡ b′ → d ≡ d′ → c ≡ c′ → r ≡ elementOf (k .sew) (k .vxrm) a b d c (k .op)
+module _ (vlenb : ℕ) (rights file memory file′ memory′ : List ℕ) (store : Bool) (g : Group) (n i a : ℕ) (v : AccessCheck)
+    (p : v ≡ fieldsAccess rights (length memory) store a n 0 (nfields g)) (x : List ℕ) (c : Control) where
+  abbrev moves : Effect Fault (List Write)
+  moves = transferring vlenb rights (coreAt file memory x c) store g n i a
+
+  pub faulted : (f : Fault) → v ≡ Faulted f → Did vlenb moves (coreAt file memory x c) v (coreAt file memory x c)
+  faulted f q =
+      let h : fieldsAccess rights (length memory) store a n 0 (nfields g) ≡ Faulted f = cc in
+      record { check = q ∙ rw h; state = rw h }
+
+  pub moved : v ≡ Granted
+      → ((x : List ℕ) (c : Control) → coreAt file′ memory′ x c
+      ≡ putAll vlenb (eachField (fieldWrite vlenb file memory store g n i a) 0 (nfields g)) (coreAt file memory x c))
+      → Did vlenb moves (coreAt file memory x c) v (coreAt file′ memory′ x c)
+  moved q d =
+      let h : fieldsAccess rights (length memory) store a n 0 (nfields g) ≡ Granted = cc in
+      record { check = q ∙ rw h; state = rw h (d x c) }
+
+pub computed : (vlenb : ℕ) (i o o′ p p′ d d′ v v′ : ℕ) (file memory file′ x : List ℕ) (c : Control) (g : Group) (k : Compute) (r : Element)
+    → o ≡ o′ → p ≡ p′ → d ≡ d′ → v ≡ v′ → r ≡ elementOf (k .sew) (k .vxrm) o p d v (k .op)
     → file′ ≡ withElement vlenb file (g .reg) (g .eew) i (r .value)
-    → Did vlenb (write (toRegisters g i (elementOf (k .sew) (k .vxrm) a′ b′ d′ c′ (k .op))))
-    file memory (S.Next (r .saturates)) file′ memory
-computed vlenb i a a′ b b′ d d′ c c′ file memory file′ g k r ea eb ed ec p l =
-    let h : elementOf (k .sew) (k .vxrm) a′ b′ d′ c′ (k .op) ≡ r = rw (← ea, ← eb, ← ed, ← ec, ← p) in
-    record { step = rw h; registers = rw h l; memory = refl }
+    → Did vlenb (write (toRegisters g i (elementOf (k .sew) (k .vxrm) o′ p′ d′ v′ (k .op)) ∷ []))
+    (coreAt file memory x c) Granted (coreAt file′ memory x (saturating (r .saturates) c))
+unfolding putAll putOf
+computed vlenb i o o′ p p′ d d′ v v′ file memory file′ x c g k r eo ep ed ev e l =
+    let h : elementOf (k .sew) (k .vxrm) o′ p′ d′ v′ (k .op) ≡ r = rw (← eo, ← ep, ← ed, ← ev, ← e) in
+    record { check = refl; state = rw (h, l) }
 
--- what is required of an action that is known
-module _ (vlenb i : ℕ) (file : List ℕ) (e : Elementwise) (action : Action) (h : ActionFits vlenb file e i action) where
-  pub compute-fits : (k : Compute) → action ≡ A.Compute k → OperandsFit vlenb file e k i
-  unfolding ActionFits
-  compute-fits k p = rw p at h
+-- by the address as it was worked out
+pub transfers-at : (vlenb : ℕ) (rights : List ℕ) (s s′ : Core) (t : Transfer) (g : Group) (r : AccessCheck) (a i o p : ℕ) → o ≡ p
+    → a ≡ elementAddress t i o → Did vlenb (transferring vlenb rights s (t .store) g (t .bytes) i a) s r s′
+    → Did vlenb (transferring vlenb rights s (t .store) g (t .bytes) i (elementAddress t i p)) s r s′
+transfers-at vlenb rights s s′ t g r a i o p e h d = rw (h, e) at d
 
-  pub load-fits : (t : Transfer) → action ≡ A.Load t → T (byteSize (t .bytes))
-  unfolding ActionFits
-  load-fits t p = rw p at h
-
-  pub store-fits : (t : Transfer) → action ≡ A.Store t → T (byteSize (t .bytes))
-  unfolding ActionFits
-  store-fits t p = rw p at h
-
-module _ (board : Board) (rights : List ℕ) (s : Core) (e : Elementwise) (i : ℕ) (b : Bool)
-    (p : b ≡ activeOf (board .vlenb) (s .registers) (e .masked) i) where
-  pub masked-off : not b ≡ true → (file memory : List ℕ)
-      → Did (board .vlenb) (effectOf board rights s e i) file memory (S.Next false) file memory
+module _ (b : Board) (rights : List ℕ) (s : Core) (e : Elementwise) (i : ℕ) (t : Bool)
+    (p : t ≡ activeOf (b .vlenb) (s .registers) (e .masked) i) where
+  pub masked-off : not t ≡ true → Did (b .vlenb) (effectOf b rights s e i) s Granted s
   unfolding effectOf
-  masked-off n file memory = let h = sym p ∙ not-true b n in record { step = rw h; registers = rw h; memory = rw h }
+  masked-off n = let h = sym p ∙ not-true t n in record { check = rw h; state = rw h }
 
-  pub acted : {v : Action} {file memory file′ memory′ : List ℕ} {r : Step} → not b ≡ false → e .action ≡ v
-      → Did (board .vlenb) (actingOf board rights s e i v) file memory r file′ memory′
-      → Did (board .vlenb) (effectOf board rights s e i) file memory r file′ memory′
+  pub acted : {v : Action} {r : AccessCheck} {s′ : Core} → not t ≡ false → e .action ≡ v → Did (b .vlenb) (actingOf b rights s e i v) s r s′
+      → Did (b .vlenb) (effectOf b rights s e i) s r s′
   unfolding effectOf
-  acted {file = file} {memory} {file′} {memory′} {r} n q d =
-      let h = sym p ∙ not-false b n in
-      rw h (subst (λ (a : Action). Did (board .vlenb) (actingOf board rights s e i a) file memory r file′ memory′) (sym q) d)
+  acted {r = r} {s′} n q d =
+      let h = sym p ∙ not-false t n in
+      rw h (subst (λ (a : Action). Did (b .vlenb) (actingOf b rights s e i a) s r s′) (sym q) d)

@@ -1,13 +1,14 @@
--- For contracts of inner functions, not to be believed: one element in the code's terms, what it comes to and what it leaves of the
--- registers and of memory.
-use Prim.Native.Nat.{ℕ}
+-- For contracts of inner functions, not to be believed: one element in the code's terms, what it relies on, what it comes to and what it
+-- leaves.
+use Prim.Native.Nat.{ℕ, _+_, _≤_}
 use mathlib.Core.Path.{_≡_}
-use mathlib.Core.Bool.{false}
 use mathlib.Core.List.{List}
 use lib.Dec.{T}
 use Rattle.alu.specs.Element.{Operands}
 use Rattle.control.specs.declared.Control.{Control}
-use Rattle.layout.specs.Layout.{withBytes, withElement, byteSize, Inside}
+use Rattle.layout.specs.Layout.{byteSize, Inside}
+use Rattle.group.specs.declared.Group.{Group}
+use Rattle.group.specs.Group.{fieldGroup, spanOf}
 use Rattle.plan.specs.declared.Read.{Read}
 use Rattle.plan.specs.declared.Read.the-variants as R
 use Rattle.plan.specs.declared.Action.{Action}
@@ -17,28 +18,9 @@ use Rattle.plan.specs.declared.Elementwise.{Elementwise}
 use Rattle.turn_theory.specs.Turn.{Effect, inactive, fault, write}
 use Rattle.machine.specs.State.{Core}
 use Rattle.access.specs.declared.Fault.{Fault}
-use Rattle.machine.specs.Effect.{Write, toRegisters, toMemory, valueOf}
-use Rattle.execute.specs.declared.Step.{Step}
-use Rattle.execute.specs.declared.Step.the-variants as S
-
--- the next element, with whether this one saturates, or its fault
-abbrev pub stepOf : Effect Fault Write → Step
-stepOf inactive = S.Next false
-stepOf (fault f) = S.Fault f
-stepOf (write (toRegisters g i r)) = S.Next (r .saturates)
-stepOf (write (toMemory a n x)) = S.Next false
-
-abbrev pub registersAfter : ℕ → Effect Fault Write → List ℕ → List ℕ
-registersAfter vlenb inactive file = file
-registersAfter vlenb (fault f) file = file
-registersAfter vlenb (write (toRegisters g i r)) file = withElement vlenb file (g .reg) (g .eew) i (r .value)
-registersAfter vlenb (write (toMemory a n x)) file = file
-
-abbrev pub memoryAfter : Effect Fault Write → List ℕ → List ℕ
-memoryAfter inactive memory = memory
-memoryAfter (fault f) memory = memory
-memoryAfter (write (toRegisters g i r)) memory = memory
-memoryAfter (write (toMemory a n x)) memory = withBytes memory a n x
+use Rattle.access.specs.declared.AccessCheck.{AccessCheck}
+use Rattle.access.specs.declared.AccessCheck.the-variants.{Granted, Faulted}
+use Rattle.machine.specs.Effect.{Write, putAll, valueOf}
 
 -- an operand's element i lies inside a register file of so many bytes
 unfoldable pub ReadInside : ℕ → ℕ → Read → ℕ → Type 0
@@ -46,9 +28,14 @@ ReadInside size vlenb (R.Constant n) i = Unit {0}
 ReadInside size vlenb (R.Element g) i = Inside size vlenb (g .reg) (g .eew) i
 ReadInside size vlenb (R.Bit reg) i = Inside size vlenb reg 1 i
 
--- element i of all operands lies inside, and so does its mask bit
+-- element i of each field lies inside
+abbrev pub FieldsInside : ℕ → ℕ → Group → ℕ → Type 0
+FieldsInside size vlenb g i = (k : ℕ) → k ≤ g .nf → Inside size vlenb (fieldGroup g k .reg) (g .eew) i
+
+-- element i of all operands lies inside, and so does its mask bit; no field has a register past v31
 pub record Ready (size vlenb : ℕ) (e : Elementwise) (i : ℕ) : Type 0 where
-  pub dest : Inside size vlenb (e .dest .reg) (e .dest .eew) i
+  pub dest : FieldsInside size vlenb (e .dest) i
+  pub ends : e .dest .reg + spanOf (e .dest) ≤ 32
   pub vs2 : ReadInside size vlenb (e .vs2) i
   pub vs1 : ReadInside size vlenb (e .vs1) i
   pub vd : ReadInside size vlenb (e .vd) i
@@ -67,11 +54,20 @@ OperandsFit vlenb file e k i =
 -- so they are, or an element to be moved has a size that there is
 unfoldable pub ActionFits : ℕ → List ℕ → Elementwise → ℕ → Action → Type 0
 ActionFits vlenb file e i (A.Compute k) = OperandsFit vlenb file e k i
-ActionFits vlenb file e i (A.Load t) = T (byteSize (t .bytes))
-ActionFits vlenb file e i (A.Store t) = T (byteSize (t .bytes))
+ActionFits vlenb file e i (A.Transfer t) = T (byteSize (t .bytes))
 
--- an effect was carried out in place: its step, and what became of the register file and of memory
-pub record Did (vlenb : ℕ) (f : Effect Fault Write) (file mem : List ℕ) (r : Step) (file′ mem′ : List ℕ) : Type 0 where
-  pub step : r ≡ stepOf f
-  pub registers : file′ ≡ registersAfter vlenb f file
-  pub memory : mem′ ≡ memoryAfter f mem
+-- whether an effect is a fault, as the access test says it, and the state that it leaves
+abbrev pub checkOf : Effect Fault (List Write) → AccessCheck
+checkOf inactive = Granted
+checkOf (fault f) = Faulted f
+checkOf (write l) = Granted
+
+abbrev pub stateAfter : ℕ → Effect Fault (List Write) → Core → Core
+stateAfter vlenb inactive s = s
+stateAfter vlenb (fault f) s = s
+stateAfter vlenb (write l) s = putAll vlenb l s
+
+-- an effect was carried out in place, from the state s to the state s′
+pub record Did (vlenb : ℕ) (f : Effect Fault (List Write)) (s : Core) (r : AccessCheck) (s′ : Core) : Type 0 where
+  pub check : r ≡ checkOf f
+  pub state : s′ ≡ stateAfter vlenb f s

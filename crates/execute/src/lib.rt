@@ -1,27 +1,25 @@
 // One element of an arithmetic or memory instruction, in place.
 ghost use mathlib.Core.Path.{_≡_};
+ghost use mathlib.Core.Bool.{cond};
 ghost use mathlib.Core.List.{List};
-ghost use Prim.Native.Nat.{ℕ, _≤_};
+ghost use Prim.Native.Nat.{ℕ, _+_, _*_, _≤_};
 ghost use lib.ListN.{length};
 ghost use lib.Dec.{T};
 ghost use Rattle.control.specs.declared.Control.{Control};
-ghost use Rattle.layout.specs.Layout.{Inside, byteSize};
-ghost use Rattle.machine.specs.Effect.{valueOf, activeOf, elementAddress, loading, storing, effectOf, computing};
-ghost use Rattle.execute.specs.Step.{ReadInside, Ready, OperandsFit, ActionFits, coreAt, Did};
+ghost use Rattle.layout.specs.Layout.{bytesAt, withBytes, elementAt, withElement, Inside, byteSize};
+ghost use Rattle.group.specs.Group.{nfields, spanOf};
+ghost use Rattle.access.specs.declared.AccessCheck.the-variants.{Granted};
+ghost use Rattle.plan.specs.declared.Action.the-variants as Act;
+ghost use Rattle.machine.specs.Effect.{saturating, putAll, valueOf, activeOf, elementAddress};
+ghost use Rattle.machine.specs.Effect.{eachField, fieldWrite, computing, transferring, effectOf};
+ghost use Rattle.execute.specs.Step.{ReadInside, FieldsInside, Ready, OperandsFit, coreAt, Did};
 use access::AccessCheck;
-use access::Fault;
 use control::Board;
-use plan::Action;
+use group::Group;
 use plan::Compute;
 use plan::Elementwise;
 use plan::Read;
 use plan::Transfer;
-
-// What an element comes to: the next one, with whether it saturated, or a fault.
-pub enum Step {
-    Next(bool),
-    Fault(Fault),
-}
 
 // An operand's element.
 fn value(registers: &[u8], vlenb: usize, read: Read, i: usize) -> u64
@@ -46,12 +44,14 @@ pub fn active(registers: &[u8], vlenb: usize, masked: bool, i: usize) -> bool
     layout::read_element(registers, vlenb, 0, 1, i) == 1
 }
 
-// An operation on the operands' elements.
-fn compute(registers: &mut [u8], vlenb: usize, e: Elementwise, k: Compute, i: usize) -> Step
+// ---- operations
+
+// An operation on the operands' elements: whether it saturates.
+fn compute(registers: &mut [u8], vlenb: usize, e: Elementwise, k: Compute, i: usize) -> bool
     requires { ⌜ Ready (length (now registers)) vlenb e i × OperandsFit vlenb (now registers) e k i ⌝ }
     ensures { λ r. ⌜
-        ((m : List ℕ) → Did vlenb (computing vlenb (now (registers .entry)) e k i)
-        (now (registers .entry)) m r (now (registers .exit)) m) ⌝ }
+        ((memory x : List ℕ) (c : Control) → Did vlenb (computing vlenb (now (registers .entry)) e k i)
+        (coreAt (now (registers .entry)) memory x c) Granted (coreAt (now (registers .exit)) memory x (saturating r c))) ⌝ }
 {
     let vs2 = e.vs2;
     let vs1 = e.vs1;
@@ -66,8 +66,33 @@ fn compute(registers: &mut [u8], vlenb: usize, e: Elementwise, k: Compute, i: us
     let c = value(registers, vlenb, v0, i);
     let r = alu::element(op, k.sew, vxrm, a, b, d, c);
     layout::write_element(registers, vlenb, dest.reg, dest.eew, i, r.value);
-    Step::Next(r.saturates)
+    r.saturates
 }
+
+// Element i of an instruction that computes, from the state as it is: whether it saturates.
+pub fn compute_element(
+    registers: &mut [u8],
+    board: Board,
+    e: Elementwise,
+    k: Compute,
+    i: usize,
+) -> bool
+    requires { ⌜
+        Ready (length (now registers)) (board .vlenb) e i
+        × (OperandsFit (board .vlenb) (now registers) e k i × (e .action ≡ Act.Compute k)) ⌝ }
+    ensures { λ r. ⌜
+        ((rights memory x : List ℕ) (c : Control) → Did (board .vlenb)
+        (effectOf board rights (coreAt (now (registers .entry)) memory x c) e i)
+        (coreAt (now (registers .entry)) memory x c) Granted (coreAt (now (registers .exit)) memory x (saturating r c))) ⌝ }
+{
+    let vlenb = board.vlenb as usize;
+    if !active(registers, vlenb, e.masked, i) {
+        return false;
+    }
+    compute(registers, vlenb, e, k, i)
+}
+
+// ---- loads and stores
 
 // base + i * stride + offset, modulo 2^64.
 fn address(t: Transfer, i: u64, offset: u64) -> u64
@@ -79,88 +104,146 @@ fn address(t: Transfer, i: u64, offset: u64) -> u64
     )
 }
 
-// A load of element i from address a.
-fn load(
+// Element i of the group that begins at the register reg, stored to memory from index a on or loaded from there.
+fn move_field(
     registers: &mut [u8],
-    memory: &[u8],
+    memory: &mut [u8],
+    vlenb: usize,
+    store: bool,
+    reg: usize,
+    eew: usize,
+    n: usize,
+    i: usize,
+    a: usize,
+)
+    requires { ⌜ Inside (length (now registers)) vlenb reg eew i × (T (byteSize n) × (a + n ≤ length (now memory))) ⌝ }
+    ensures { λ _. ⌜
+        now (registers .exit)
+        ≡ cond store (now (registers .entry))
+        (withElement vlenb (now (registers .entry)) reg eew i (bytesAt (now (memory .entry)) a n)) ⌝ }
+    ensures { λ _. ⌜
+        now (memory .exit)
+        ≡ cond store (withBytes (now (memory .entry)) a n (elementAt vlenb (now (registers .entry)) reg eew i))
+        (now (memory .entry)) ⌝ }
+{
+    if store {
+        let x = layout::read_element(registers, vlenb, reg, eew, i);
+        layout::write_bytes(memory, a, n, x);
+    } else {
+        let x = layout::read_bytes(memory, a, n);
+        layout::write_element(registers, vlenb, reg, eew, i, x);
+    }
+}
+
+// Element i of each field, the first at index a of memory, each after the one before it.
+fn move_fields(
+    registers: &mut [u8],
+    memory: &mut [u8],
+    vlenb: usize,
+    store: bool,
+    dest: Group,
+    n: usize,
+    i: usize,
+    a: usize,
+)
+    requires { ⌜
+        FieldsInside (length (now registers)) vlenb dest i
+        × ((dest .reg + spanOf dest ≤ 32)
+        × (T (byteSize n) × ((length (now memory) ≤ 65536) × (a + nfields dest * n ≤ length (now memory))))) ⌝ }
+    ensures { λ _. ⌜
+        ((x : List ℕ) (c : Control) → coreAt (now (registers .exit)) (now (memory .exit)) x c
+        ≡ putAll vlenb
+        (eachField (fieldWrite vlenb (now (registers .entry)) (now (memory .entry)) store dest n i a) 0 (nfields dest))
+        (coreAt (now (registers .entry)) (now (memory .entry)) x c)) ⌝ }
+{
+    let step = group::registers(dest);
+    let last = dest.nf as u64;
+    let mut reg = dest.reg;
+    let mut field = a;
+    let mut k: u64 = 0;
+    while k <= last {
+        move_field(registers, memory, vlenb, store, reg, dest.eew, n, i, field);
+        reg += step;
+        field += n;
+        k += 1;
+    }
+}
+
+// Element i, at address a: no field of it is moved before all are tested.
+fn transfer(
+    registers: &mut [u8],
+    memory: &mut [u8],
     rights: &[u8],
     vlenb: usize,
-    e: Elementwise,
-    t: Transfer,
+    store: bool,
+    dest: Group,
+    n: u64,
     i: usize,
     a: u64,
-) -> Step
+) -> AccessCheck
     requires { ⌜
-        Inside (length (now registers)) vlenb (e .dest .reg) (e .dest .eew) i
-        × ((length (now rights) ≡ 256) × ((length (now memory) ≤ 65536) × T (byteSize (t .bytes)))) ⌝ }
+        FieldsInside (length (now registers)) vlenb dest i
+        × ((dest .reg + spanOf dest ≤ 32)
+        × ((length (now rights) ≡ 256) × ((length (now memory) ≤ 65536) × T (byteSize n)))) ⌝ }
     ensures { λ r. ⌜
         ((x : List ℕ) (c : Control) → Did vlenb
-        (loading (now (rights .entry)) (coreAt (now (registers .entry)) (now (memory .entry)) x c) e t i a)
-        (now (registers .entry)) (now (memory .entry)) r (now (registers .exit)) (now (memory .entry))) ⌝ }
+        (transferring vlenb (now (rights .entry)) (coreAt (now (registers .entry)) (now (memory .entry)) x c) store dest n i a)
+        (coreAt (now (registers .entry)) (now (memory .entry)) x c) r (coreAt (now (registers .exit)) (now (memory .exit)) x c)) ⌝ }
 {
-    let dest = e.dest;
-    match access::access(rights, memory.len(), false, a, t.bytes) {
-        AccessCheck::Faulted(fault) => Step::Fault(fault),
+    let check = access::segment(rights, memory.len(), store, a, n, dest.nf);
+    match check {
+        AccessCheck::Faulted(_) => check,
         AccessCheck::Granted => {
-            let x = layout::read_bytes(memory, a as usize, t.bytes as usize);
-            layout::write_element(registers, vlenb, dest.reg, dest.eew, i, x);
-            Step::Next(false)
+            move_fields(
+                registers,
+                memory,
+                vlenb,
+                store,
+                dest,
+                n as usize,
+                i,
+                a as usize,
+            );
+            check
         }
     }
 }
 
-// A store of the element `value` to address a.
-fn store(memory: &mut [u8], rights: &[u8], t: Transfer, value: u64, a: u64) -> Step
-    requires { ⌜ (length (now rights) ≡ 256) × ((length (now memory) ≤ 65536) × T (byteSize (t .bytes))) ⌝ }
-    ensures { λ r. ⌜
-        ((vlenb : ℕ) (file x : List ℕ) (c : Control) → Did vlenb
-        (storing (now (rights .entry)) (coreAt file (now (memory .entry)) x c) t value a)
-        file (now (memory .entry)) r file (now (memory .exit))) ⌝ }
-{
-    match access::access(rights, memory.len(), true, a, t.bytes) {
-        AccessCheck::Faulted(fault) => Step::Fault(fault),
-        AccessCheck::Granted => {
-            layout::write_bytes(memory, a as usize, t.bytes as usize, value);
-            Step::Next(false)
-        }
-    }
-}
-
-// Element i, from the state as it is.
-pub fn perform(
+// Element i of a load or a store, from the state as it is: granted, or its fault.
+pub fn transfer_element(
     registers: &mut [u8],
     memory: &mut [u8],
     rights: &[u8],
     board: Board,
     e: Elementwise,
+    t: Transfer,
     i: usize,
-) -> Step
+) -> AccessCheck
     requires { ⌜
         Ready (length (now registers)) (board .vlenb) e i
         × ((length (now rights) ≡ 256)
-        × ((length (now memory) ≤ 65536) × ActionFits (board .vlenb) (now registers) e i (e .action))) ⌝ }
+        × ((length (now memory) ≤ 65536) × (T (byteSize (t .bytes)) × (e .action ≡ Act.Transfer t)))) ⌝ }
     ensures { λ r. ⌜
         ((x : List ℕ) (c : Control) → Did (board .vlenb)
         (effectOf board (now (rights .entry)) (coreAt (now (registers .entry)) (now (memory .entry)) x c) e i)
-        (now (registers .entry)) (now (memory .entry)) r (now (registers .exit)) (now (memory .exit))) ⌝ }
+        (coreAt (now (registers .entry)) (now (memory .entry)) x c) r (coreAt (now (registers .exit)) (now (memory .exit)) x c)) ⌝ }
 {
     let vlenb = board.vlenb as usize;
-    let action = e.action;
     let vs2 = e.vs2;
-    let vd = e.vd;
+    let dest = e.dest;
     if !active(registers, vlenb, e.masked, i) {
-        return Step::Next(false);
+        return AccessCheck::Granted;
     }
-    match action {
-        Action::Compute(k) => compute(registers, vlenb, e, k, i),
-        Action::Load(t) => {
-            let a = address(t, i as u64, value(registers, vlenb, vs2, i));
-            load(registers, memory, rights, vlenb, e, t, i, a)
-        }
-        Action::Store(t) => {
-            let a = address(t, i as u64, value(registers, vlenb, vs2, i));
-            let x = value(registers, vlenb, vd, i);
-            store(memory, rights, t, x, a)
-        }
-    }
+    let a = address(t, i as u64, value(registers, vlenb, vs2, i));
+    transfer(
+        registers,
+        memory,
+        rights,
+        vlenb,
+        t.store,
+        dest,
+        t.bytes,
+        i,
+        a,
+    )
 }

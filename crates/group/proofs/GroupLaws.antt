@@ -1,48 +1,80 @@
 -- Register groups: what placement and the overlap rule come to, and where aligned groups lie.
-use Prim.Native.Nat.{ℕ, zero, suc, _+_, _*_, _/_, _%_, _^_, _≤_, _<_, max}
-use mathlib.Core.Path.{_≡_, refl, ap, _∙_}
+use Prim.Native.Nat.{ℕ, suc, _+_, _-_, _*_, _/_, _%_, _^_, _≤_, _<_, max}
+use mathlib.Core.Path.{_≡_, ap, _∙_}
 use mathlib.Core.Logic.{_⊎_, inl, inr, ⊎-elim}
-use mathlib.Core.Bool.{true, _&&_}
+use mathlib.Core.Bool.{Bool, true, _&&_, _||_, and-assoc, or-assoc}
+use native.Mathlib.Numerals.{add-one}
 use native.Mathlib.Omega.{arith}
-use native.Mathlib.Nat.{div-add-mod', mul-le-mul-right, lt-of-mul-lt-mul-right}
+use native.Mathlib.Nat.{div-add-mod', div-le-self, mul-le-mul, mul-le-mul-right, lt-of-mul-lt-mul-right, add-mul-mod-self-right}
 use native.Mathlib.Decide.{decLt}
 use lib.Dec.{ltb, leb, eqb}
-use Rattle.laws.proofs.Apart.{or-cases, apart}
+use mir.Syntax.{w32, w64}
+use mir.Val.{Fits}
+use borrow.Author.Tests.{eqb-true}
+use Rattle.laws.proofs.Apart.{both-left, both-right, or-cases, apart}
 use Rattle.group.specs.declared.Group.{Group}
-use Rattle.group.specs.Group.{registersOf, placedOf, apartOf, lowestOf, mayOverlapOf}
+use Rattle.group.specs.Group.{registersOf, nfields, fieldGroup, spanOf, placedOf, apartOf, lowestOf, highestOf, mayOverlapOf}
 
 pub record Placed (elen : ℕ) (g : Group) : Type 0 where
   pub eew-low : 8 ≤ g .eew
   pub eew-high : g .eew ≤ elen
   pub emul-low : 1 ≤ g .emul8
-  pub emul-high : g .emul8 ≤ 64
+  pub emul-high : nfields g * g .emul8 ≤ 64
   pub aligned : g .reg % registersOf g ≡ 0
+  pub ends : g .reg + spanOf g ≤ 32
 
 pub placed-facts : (elen : ℕ) (g : Group) → placedOf elen g ≡ true → Placed elen g
 unfolding placedOf
 placed-facts elen g h = search apart
 
--- how a destination d may lie to a source s: below or above it, or over it at an equal, a smaller or a larger EEW
-pub data MayOverlap (d s : Group) : Type 0 where
-  below : d .reg + registersOf d ≤ s .reg → MayOverlap d s
-  above : s .reg + registersOf s ≤ d .reg → MayOverlap d s
-  equal : d .eew ≡ s .eew → MayOverlap d s
-  lowest : d .eew < s .eew → d .reg ≡ s .reg → MayOverlap d s
-  highest : s .eew < d .eew → s .reg + registersOf s ≡ d .reg + registersOf d → 8 ≤ s .emul8 → MayOverlap d s
+-- ---- the overlap rule
 
-apart-cases : (d s : Group) → apartOf d s ≡ true → MayOverlap d s
-apart-cases d s h =
-    ⊎-elim (λ t. below (search apart)) (λ t. above (search apart)) (or-cases (leb (d .reg + registersOf d) (s .reg)) _ h)
+-- how field k of a destination d may lie to a source s, or its first field: below or above it, or, where d has no other field, over it at
+-- an equal, a smaller or a larger EEW
+pub data MayOverlap (d s : Group) (k : ℕ) : Type 0 where
+  below : fieldGroup d k .reg + registersOf d ≤ s .reg → MayOverlap d s k
+  above : s .reg + registersOf s ≤ fieldGroup d k .reg → MayOverlap d s k
+  equal : fieldGroup d k .reg ≡ d .reg → d .eew ≡ s .eew → MayOverlap d s k
+  lowest : fieldGroup d k .reg ≡ d .reg → d .eew < s .eew → d .reg ≡ s .reg → MayOverlap d s k
+  highest : fieldGroup d k .reg ≡ d .reg → s .eew < d .eew → s .reg + registersOf s ≡ d .reg + registersOf d → 8 ≤ s .emul8
+      → MayOverlap d s k
 
-pub overlap-cases : (d s : Group) → mayOverlapOf d s ≡ true → MayOverlap d s
-unfolding mayOverlapOf
-overlap-cases d s h =
-    ⊎-elim (apart-cases d s)
-    (λ h. ⊎-elim (λ t. equal (search apart))
-    (λ h. ⊎-elim (λ t. lowest (search apart) (search apart)) (λ t. highest (search apart) (search apart) (search apart))
-    (or-cases (ltb (d .eew) (s .eew) && lowestOf d s) _ h))
-    (or-cases (eqb (d .eew) (s .eew)) _ h))
-    (or-cases (apartOf d s) _ h)
+-- the fields before and with field k
+pub fields-before : (g : Group) (k : ℕ) → k ≤ g .nf → k * registersOf g + registersOf g ≤ spanOf g
+fields-before g k h = omega (arith, mul-le-mul-right (registersOf g) h)
+
+module _ (d s : Group) (k : ℕ) (m : k ≤ d .nf) where
+  apart-cases : apartOf d s ≡ true → MayOverlap d s k
+  apart-cases h =
+      ⊎-elim
+      (λ t. let l : d .reg + spanOf d ≤ s .reg = search apart in below (omega (arith, fields-before d k m)))
+      (λ t. let l : s .reg + spanOf s ≤ d .reg = search apart in above (omega (arith, fields-before s 0 (omega arith))))
+      (or-cases (leb (d .reg + spanOf d) (s .reg)) _ h)
+
+  -- the one field of a destination
+  over-cases : d .nf ≡ 0 → (eqb (d .eew) (s .eew) || ((ltb (d .eew) (s .eew) && lowestOf d s)
+      || (ltb (s .eew) (d .eew) && (highestOf d s && leb 8 (s .emul8))))) ≡ true
+      → MayOverlap d s k
+  over-cases z h =
+      ⊎-elim (λ t. equal first (search apart))
+      (λ h. ⊎-elim (λ t. lowest first (search apart) (search apart)) (λ t. highest first (search apart) (search apart) (search apart))
+      (or-cases (ltb (d .eew) (s .eew) && lowestOf d s) _ h))
+      (or-cases (eqb (d .eew) (s .eew)) _ h)
+    where
+      none : k ≡ 0
+      none = omega arith
+
+      first : fieldGroup d k .reg ≡ d .reg
+      first = omega (arith, ap (λ (n : ℕ). n * registersOf d) none)
+
+  pub overlap-cases : mayOverlapOf d s ≡ true → MayOverlap d s k
+  unfolding mayOverlapOf
+  overlap-cases h =
+      ⊎-elim apart-cases
+      (λ t. over-cases (eqb-true (d .nf) 0 (both-left (eqb (d .nf) 0) _ t)) (both-right (eqb (d .nf) 0) _ t))
+      (or-cases (apartOf d s) _ h)
+
+-- ---- where aligned groups lie
 
 -- of two multiples of n the larger is larger by n at least
 next-multiple : (n a b : ℕ) → a % n ≡ 0 → b % n ≡ 0 → a < b → a + n ≤ b
@@ -63,18 +95,45 @@ same-or-apart d s e p q = by-order (decLt (d .reg) (s .reg)) (decLt (s .reg) (d 
   by-order (no l) (yes g) = inr (inr (next-multiple (registersOf s) (s .reg) (d .reg) q (rw e at p) g))
   by-order (no l) (no g) = inl (omega arith)
 
--- 8 * EMUL up to 64 makes groups of 1, 2, 4 or 8 registers
-divides-32 : (k : ℕ) → k ≤ 6 → 32 % max 1 (2 ^ k / 8) ≡ 0
-divides-32 zero h = refl
-divides-32 (suc zero) h = refl
-divides-32 (suc (suc zero)) h = refl
-divides-32 (suc (suc (suc zero))) h = refl
-divides-32 (suc (suc (suc (suc zero)))) h = refl
-divides-32 (suc (suc (suc (suc (suc zero))))) h = refl
-divides-32 (suc (suc (suc (suc (suc (suc zero)))))) h = refl
-divides-32 (suc (suc (suc (suc (suc (suc (suc k))))))) h = omega arith
+-- each field of an aligned group is aligned
+pub field-aligned : (g : Group) (k : ℕ) → g .reg % registersOf g ≡ 0 → fieldGroup g k .reg % registersOf g ≡ 0
+field-aligned g k h = add-mul-mod-self-right (g .reg) k (registersOf g) ∙ h
 
--- an aligned group ends at or below v31
-pub ends-inside : (g : Group) (k : ℕ) → k ≤ 6 → g .emul8 ≡ 2 ^ k → g .reg < 32 → g .reg % registersOf g ≡ 0 → g .reg + registersOf g ≤ 32
-ends-inside g k h e l a =
-    next-multiple (registersOf g) (g .reg) 32 a (ap (λ (m : ℕ). 32 % max 1 (m / 8)) e ∙ divides-32 k h) l
+-- ---- what fits
+
+-- 8 * EMUL and nf are numbers of 32 bits
+span-most : (nf emul8 : ℕ) → nf < 2 ^ 32 → emul8 < 2 ^ 32 → suc nf * max 1 (emul8 / 8) ≤ 2 ^ 61
+span-most nf emul8 h k =
+    let l : suc nf ≤ 2 ^ 32 = omega arith in
+    let m : max 1 (emul8 / 8) ≤ 2 ^ 29 = omega arith in
+    omega (arith, mul-le-mul l m)
+
+pub span-fits : (g : Group) (r : ℕ) → Fits w32 (g .nf) → Fits w32 (g .emul8) → r ≡ registersOf g → Fits w64 ((g .nf + 1) * r)
+span-fits g r h k e = record { fits = rw e (omega (arith, span-most (g .nf) (g .emul8) (h .fits) (k .fits))) }
+
+pub end-fits : (g : Group) (r : ℕ) → Fits w32 (g .nf) → Fits w32 (g .emul8) → g .reg < 32 → r ≡ spanOf g → Fits w64 (g .reg + r)
+end-fits g r h k l e = record { fits = rw e (omega (arith, span-most (g .nf) (g .emul8) (h .fits) (k .fits))) }
+
+pub times-fits : (g : Group) → Fits w32 (g .nf) → Fits w32 (g .emul8) → Fits w64 ((g .nf + 1) * g .emul8)
+times-fits g h k =
+    let l : g .nf + 1 ≤ 2 ^ 32 = omega (arith, h .fits) in
+    let m : g .emul8 ≤ 2 ^ 32 - 1 = omega (arith, k .fits) in
+    record { fits = omega (arith, mul-le-mul l m) }
+
+pub emul8-fits : (sew lmul8 eew : ℕ) → lmul8 ≤ 64 → eew ≤ 2048 → Fits w32 (eew * lmul8 / sew)
+emul8-fits sew lmul8 eew h k = record { fits = omega (arith, mul-le-mul k h, div-le-self (eew * lmul8) sew) }
+
+-- ---- the tests, as the code has them
+
+pub placed-is : (elen : ℕ) (g : Group) (registers end : ℕ) → registers ≡ registersOf g → end ≡ g .reg + spanOf g
+    → (((((leb 8 (g .eew) && leb (g .eew) elen) && leb 1 (g .emul8)) && leb ((g .nf + 1) * g .emul8) 64) && eqb (g .reg % registers) 0)
+    && leb end 32) ≡ placedOf elen g
+unfolding placedOf
+placed-is elen g registers end p q = simp (p, q, add-one, and-assoc)
+
+pub overlap-is : (d s : Group) (dend send : ℕ) (part : Bool) → dend ≡ d .reg + spanOf d → send ≡ s .reg + spanOf s → part ≡ highestOf d s
+    → ((leb dend (s .reg) || leb send (d .reg)) || (eqb (d .nf) 0
+    && ((eqb (d .eew) (s .eew) || (ltb (d .eew) (s .eew) && eqb (d .reg) (s .reg)))
+    || ((ltb (s .eew) (d .eew) && part) && leb 8 (s .emul8))))) ≡ mayOverlapOf d s
+unfolding mayOverlapOf
+overlap-is d s dend send part p q h = simp (p, q, h, and-assoc, or-assoc)

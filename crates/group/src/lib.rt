@@ -1,22 +1,24 @@
-// Register groups: EMUL, alignment, the overlap rule and the v0 rule, as tests.
+// Register groups: EMUL, fields, alignment, the overlap rule and the v0 rule, as tests.
 // The tests are joined by `&` and `|`, as in the definitions: no branches.
 ghost use mathlib.Core.Path.{_≡_};
 ghost use Prim.Native.Nat.{_+_, _≤_, _<_};
-ghost use Rattle.group.specs.Group.{emul8Of, maskGroup, registersOf, placedOf, mayOverlapOf, mayShareOf, sparesV0};
+ghost use Rattle.group.specs.Group.{emul8Of, maskGroup, registersOf, spanOf, placedOf};
+ghost use Rattle.group.specs.Group.{highestOf, mayOverlapOf, mayShareOf, sparesV0};
 
-// A group: its first register, EEW, and 8 * EMUL.
+// A group: its first register, EEW, and 8 * EMUL; and, of a segment access, one less than the number of fields, each of which has such a group.
 pub struct Group {
     pub reg: usize,
     pub eew: usize,
-    pub emul8: usize,
+    pub emul8: u32,
+    pub nf: u32,
 }
 
 // 8 * EMUL.
-pub fn emul8(sew: usize, lmul8: usize, eew: usize) -> usize
+pub fn emul8(sew: usize, lmul8: usize, eew: usize) -> u32
     requires { ⌜ (1 ≤ sew) × ((lmul8 ≤ 64) × (eew ≤ 2048)) ⌝ }
     ensures { λ r. ⌜ r ≡ emul8Of sew lmul8 eew ⌝ }
 {
-    eew * lmul8 / sew
+    (eew * lmul8 / sew) as u32
 }
 
 // A mask register.
@@ -27,36 +29,54 @@ pub fn mask(reg: usize) -> Group
         reg,
         eew: 1,
         emul8: 1,
+        nf: 0,
     }
 }
 
-// How many registers a group has: EMUL, and 1 where EMUL is below 1.
+// How many registers a group has, or each of its fields: EMUL, and 1 where EMUL is below 1.
 pub fn registers(group: Group) -> usize
     ensures { λ r. ⌜ r ≡ registersOf group ⌝ }
 {
     if group.emul8 < 8 {
         return 1;
     }
-    group.emul8 / 8
+    (group.emul8 / 8) as usize
 }
 
-// Whether EEW and EMUL are in range, and the group starts at a multiple of EMUL.
+// How many registers all fields have.
+fn span(group: Group) -> usize
+    ensures { λ r. ⌜ r ≡ spanOf group ⌝ }
+{
+    (group.nf as usize + 1) * registers(group)
+}
+
+// Whether EEW and EMUL are in range, with all fields, the group starts at a multiple of EMUL, and none of its registers is past v31.
 pub fn placed(elen: usize, group: Group) -> bool
+    requires { ⌜ group .reg < 32 ⌝ }
     ensures { λ r. ⌜ r ≡ placedOf elen group ⌝ }
 {
     (8 <= group.eew)
         & (group.eew <= elen)
         & (1 <= group.emul8)
-        & (group.emul8 <= 64)
+        & ((group.nf as usize + 1) * (group.emul8 as usize) <= 64)
         & (group.reg % registers(group) == 0)
+        & (end(group) <= 32)
 }
 
-// The register after the group's last.
+// The register after the last one, of all fields.
 fn end(group: Group) -> usize
     requires { ⌜ group .reg < 32 ⌝ }
-    ensures { λ r. ⌜ r ≡ group .reg + registersOf group ⌝ }
+    ensures { λ r. ⌜ r ≡ group .reg + spanOf group ⌝ }
 {
-    group.reg + registers(group)
+    group.reg + span(group)
+}
+
+// Whether a source is the destination's highest-numbered part, where both have one field.
+fn highest(d: Group, s: Group) -> bool
+    requires { ⌜ (d .reg < 32) × (s .reg < 32) ⌝ }
+    ensures { λ r. ⌜ r ≡ highestOf d s ⌝ }
+{
+    s.reg + registers(s) == d.reg + registers(d)
 }
 
 // Whether a destination may overlap a source as it does.
@@ -68,9 +88,10 @@ pub fn may_overlap(d: Group, s: Group) -> bool
     let s_end = end(s);
     (d_end <= s.reg)
         | (s_end <= d.reg)
-        | (d.eew == s.eew)
-        | ((d.eew < s.eew) & (d.reg == s.reg))
-        | ((s.eew < d.eew) & (s_end == d_end) & (8 <= s.emul8))
+        | ((d.nf == 0)
+            & ((d.eew == s.eew)
+                | ((d.eew < s.eew) & (d.reg == s.reg))
+                | ((s.eew < d.eew) & highest(d, s) & (8 <= s.emul8))))
 }
 
 // Whether two sources may overlap as they do.

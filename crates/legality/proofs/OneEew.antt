@@ -12,7 +12,7 @@ use borrow.Author.Tests.{eqb-true, le-leb, eq-eqb}
 use Rattle.laws.proofs.Apart.{both-left, both-right, or-cases, apart}
 use Rattle.laws.proofs.Chain.{and-yes}
 use Rattle.group.specs.declared.Group.{Group}
-use Rattle.group.specs.Group.{registersOf, apartOf, mayShareOf}
+use Rattle.group.specs.Group.{spanOf, apartOf, mayShareOf}
 use Rattle.legality.specs.Legal.{mayShareEach, sourcesFit}
 use Rattle.legality.specs.OneEew.{Has, sourceAt, ReadAtOneEew, OneEew}
 
@@ -24,9 +24,9 @@ SameWhereShared s r = (n : ℕ) → Has s n → Has r n → s .eew ≡ r .eew
 
 apart-none : (s r : Group) → apartOf s r ≡ true → (n : ℕ) → Has s n → Has r n → ⊥
 apart-none s r h n p q =
-    ⊎-elim (λ t. let u : s .reg + registersOf s ≤ r .reg = search apart in omega (arith, p, q))
-    (λ t. let u : r .reg + registersOf r ≤ s .reg = search apart in omega (arith, p, q))
-    (or-cases (leb (s .reg + registersOf s) (r .reg)) (leb (r .reg + registersOf r) (s .reg)) h)
+    ⊎-elim (λ t. let u : s .reg + spanOf s ≤ r .reg = search apart in omega (arith, p, q))
+    (λ t. let u : r .reg + spanOf r ≤ s .reg = search apart in omega (arith, p, q))
+    (or-cases (leb (s .reg + spanOf s) (r .reg)) (leb (r .reg + spanOf r) (s .reg)) h)
 
 shared-same : (s r : Group) → mayShareOf s r ≡ true → SameWhereShared s r
 unfolding mayShareOf
@@ -36,14 +36,14 @@ shared-same s r h n p q =
 same-shared : (s r : Group) → SameWhereShared s r → mayShareOf s r ≡ true
 unfolding mayShareOf
 same-shared s r h =
-    by-place (decLe (s .reg + registersOf s) (r .reg)) (decLe (r .reg + registersOf r) (s .reg)) (decLe (s .reg) (r .reg)) where
+    by-place (decLe (s .reg + spanOf s) (r .reg)) (decLe (r .reg + spanOf r) (s .reg)) (decLe (s .reg) (r .reg)) where
       equal : s .eew ≡ r .eew → (apartOf s r || eqb (s .eew) (r .eew)) ≡ true
       equal e = rw (eq-eqb (s .eew) (r .eew) e) (or-true (apartOf s r))
 
-      by-place : Dec (s .reg + registersOf s ≤ r .reg) → Dec (r .reg + registersOf r ≤ s .reg) → Dec (s .reg ≤ r .reg)
+      by-place : Dec (s .reg + spanOf s ≤ r .reg) → Dec (r .reg + spanOf r ≤ s .reg) → Dec (s .reg ≤ r .reg)
           → (apartOf s r || eqb (s .eew) (r .eew)) ≡ true
-      by-place (yes p) q o = rw (le-leb (s .reg + registersOf s) (r .reg) p)
-      by-place (no p) (yes q) o = rw (le-leb (r .reg + registersOf r) (s .reg) q, or-true (leb (s .reg + registersOf s) (r .reg)))
+      by-place (yes p) q o = rw (le-leb (s .reg + spanOf s) (r .reg) p)
+      by-place (no p) (yes q) o = rw (le-leb (r .reg + spanOf r) (s .reg) q, or-true (leb (s .reg + spanOf s) (r .reg)))
       by-place (no p) (no q) (yes o) = equal (h (r .reg) (omega arith, omega arith) (omega arith, omega arith))
       by-place (no p) (no q) (no o) = equal (h (s .reg) (omega arith, omega arith) (omega arith, omega arith))
 

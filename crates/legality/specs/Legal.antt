@@ -38,8 +38,7 @@ readFits elen writes d (R.Bit reg) = not writes || mayOverlapOf d (maskGroup reg
 
 abbrev pub writesRegisters : Action → Bool
 writesRegisters (A.Compute k) = true
-writesRegisters (A.Load t) = true
-writesRegisters (A.Store t) = false
+writesRegisters (A.Transfer t) = not (t .store)
 
 abbrev pub isBit : Read → Bool
 isBit (R.Constant n) = false
@@ -58,8 +57,7 @@ operandsFit elen e =
 -- an operation is there at this SEW (operation/specs/Shape, `largest`)
 abbrev pub isThere : Action → Bool
 isThere (A.Compute k) = leb (k .sew) (largestSew (k .op))
-isThere (A.Load t) = true
-isThere (A.Store t) = true
+isThere (A.Transfer t) = true
 
 unfoldable pub elementsLegal : Board → Control → Elementwise → Bool
 elementsLegal b c e = (not (e .typed) || startable b c) && (isThere (e .action) && operandsFit (b .elen) e)

@@ -5,12 +5,12 @@ use mathlib.Core.Bool.{true}
 use mathlib.Core.List.{List}
 use lib.ListN.{length, getD}
 use Rattle.group.specs.declared.Group.{Group}
-use Rattle.group.specs.Group.{maskGroup, registersOf}
+use Rattle.group.specs.Group.{maskGroup, spanOf}
 use Rattle.legality.specs.Legal.{sourcesFit}
 
--- register n is one of the group's
+-- register n is one of the group's, in any of its fields
 abbrev pub Has : Group → ℕ → Type 0
-Has g n = (g .reg ≤ n) × (n < g .reg + registersOf g)
+Has g n = (g .reg ≤ n) × (n < g .reg + spanOf g)
 
 -- source k, counted from 0; past the end none is asked for
 abbrev pub sourceAt : List Group → ℕ → Group

@@ -51,8 +51,7 @@ fn writes_registers(action: Action) -> bool
 {
     match action {
         Action::Compute(_) => true,
-        Action::Load(_) => true,
-        Action::Store(_) => false,
+        Action::Transfer(t) => !t.store,
     }
 }
 
@@ -94,8 +93,7 @@ fn is_there(action: Action) -> bool
             let op = k.op;
             k.sew <= operation::largest_sew(op)
         }
-        Action::Load(_) => true,
-        Action::Store(_) => true,
+        Action::Transfer(_) => true,
     }
 }
 

@@ -1,5 +1,5 @@
 -- Demands 1 and 3 of the customer, and the law of the number passed, hold of the definition of a turn.
-use Prim.Native.Nat.{ℕ, _+_, _-_, _^_, _≤_}
+use Prim.Native.Nat.{ℕ, zero, suc, _+_, _-_, _^_, _≤_}
 use mathlib.Core.Path.{_≡_, refl, sym, ap, _∙_, subst}
 use mathlib.Core.Logic.{_⊎_, inl, inr}
 use mathlib.Core.Bool.{Bool, true, false, not, _&&_}
@@ -34,9 +34,10 @@ use Rattle.decode.specs.Word.{decodeOf}
 use Rattle.decode.proofs.Fields.{fits}
 use Rattle.access.specs.declared.FaultPlace.{FaultPlace}
 use Rattle.access.specs.declared.Fault.{Fault}
+use Rattle.group.specs.Group.{nfields}
 use Rattle.access.specs.declared.AccessCheck.{AccessCheck}
 use Rattle.access.specs.declared.AccessCheck.the-variants.{Granted, Faulted}
-use Rattle.access.specs.Access.{nowhere, accessOf}
+use Rattle.access.specs.Access.{nowhere, accessOf, fieldAddress, orNext, fieldsAccess}
 use Rattle.refusal.specs.Refusal.{refusalOf}
 use Rattle.refusal.proofs.RefusalLaws.{accepted-facts}
 use Rattle.plan.specs.declared.Action.{Action}
@@ -60,6 +61,7 @@ use Rattle.machine.specs.Machine.{ranOf, outcomeOf, planTurn, planAt, tu
 use Rattle.machine.specs.Demands.{isTrap, changesNothing, untouched, Demand1, Demand3, Counts, Next, turnsOf, lastRights, Between}
 use Rattle.machine.specs.Demands.{Proceeds}
 use Rattle.machine.proofs.PlanFacts.{plan-sound}
+use Rattle.machine.proofs.EffectLaws.{all-keep}
 use Rattle.machine.proofs.Lawful.{opened-refl, lawful}
 
 -- ---- a fault's answer is a trap, and a rejection's answer one that changes nothing
@@ -103,20 +105,32 @@ rejection-rejects b p rights s v =
     rejecting-else _ _ (board-refuses b _ _ _ rights _)
     (either Rejecting (legalOf b (withVstart (s .control) v) p) none (some Illegal) (λ t. tt) (λ t. refl))
 
-abbrev Trapping : Effect Fault Write → Type 0
+abbrev Trapping : Effect Fault (List Write) → Type 0
 Trapping inactive = Unit {0}
 Trapping (fault x) = trapOnly (x .answer) ≡ true
-Trapping (write w) = Unit {0}
+Trapping (write l) = Unit {0}
 
-trapping-check : (v : AccessCheck) (w : Write) → Checks trapOnly v → Trapping (ifGranted v (write w))
-trapping-check Granted w h = tt
-trapping-check (Faulted x) w (faulted h) = h
+trapping-check : (v : AccessCheck) (l : List Write) → Checks trapOnly v → Trapping (ifGranted v (write l))
+trapping-check Granted l h = tt
+trapping-check (Faulted x) l (faulted h) = h
+
+-- of fields, the first that faults
+next-checks : (v w : AccessCheck) → Checks trapOnly v → Checks trapOnly w → Checks trapOnly (orNext v w)
+next-checks Granted w h k = k
+next-checks (Faulted x) w h k = h
+
+fields-trap : (rights : List ℕ) (memory : ℕ) (store : Bool) (a n k others : ℕ)
+    → Checks trapOnly (fieldsAccess rights memory store a n k others)
+unfolding fieldsAccess
+fields-trap rights memory store a n k zero = grants
+fields-trap rights memory store a n k (suc others) =
+    next-checks _ _ (access-traps rights memory store (fieldAddress a n k) n) (fields-trap rights memory store a n (suc k) others)
 
 acting-traps : (b : Board) (rights : List ℕ) (s : Core) (e : Elementwise) (i : ℕ) (x : Action) → Trapping (actingOf b rights s e i x)
 unfolding actingOf
 acting-traps b rights s e i (A.Compute k) = tt
-acting-traps b rights s e i (A.Load t) = trapping-check _ _ (access-traps rights (length (s .memory)) false _ (t .bytes))
-acting-traps b rights s e i (A.Store t) = trapping-check _ _ (access-traps rights (length (s .memory)) true _ (t .bytes))
+acting-traps b rights s e i (A.Transfer t) =
+    trapping-check _ _ (fields-trap rights (length (s .memory)) (t .store) _ (t .bytes) 0 (nfields (e .dest)))
 
 effect-traps : (b : Board) (p : Plan) (rights : List ℕ) (s : Core) (k : ℕ) → Trapping (effectAt b p rights s k)
 unfolding effectOf
@@ -244,7 +258,7 @@ counted b = record {
 
 -- ---- from one turn to the next: vstart of the record of a `Core` is 0, and stays so
 
-put-vstart : (b : Board) (w : Write) (s : Core) → s .control .vstart ≡ 0 → putOf b w s .control .vstart ≡ 0
+put-vstart : (b : Board) (w : Write) (s : Core) → s .control .vstart ≡ 0 → putOf (b .vlenb) w s .control .vstart ≡ 0
 unfolding putOf
 put-vstart b (toRegisters g i r) s h = h
 put-vstart b (toMemory a n x) s h = h
@@ -292,7 +306,7 @@ plan-besides b x c v q (I.Arithmetic a) = refl
 plan-besides b x c v q (I.Memory a) = ap P.Elements (mode-besides b x c a v q (a .mode))
 
 put-plan : (b : Board) (i : Instruction) (p : Plan) (w : Write) (s : Core) → planOf b (s .scalars) (s .control) i ≡ p
-    → planOf b (putOf b w s .scalars) (putOf b w s .control) i ≡ p
+    → planOf b (putOf (b .vlenb) w s .scalars) (putOf (b .vlenb) w s .control) i ≡ p
 unfolding putOf
 put-plan b i p (toRegisters g k x) s h = plan-besides b (s .scalars) (s .control) (s .control .vstart) _ i ∙ h
 put-plan b i p (toMemory a n x) s h = h
@@ -318,7 +332,7 @@ module _ (b : Board) (p : Plan) where
 
   following-point : (n : ℕ) (s : State) (r : List ℕ) → pointOf b p (following n s r) ≡ ranOf b p n s .after
   following-point n s r = point-left (s .rights) r (ranOf b p n s .after)
-      (turn-keeps (J b p) (λ c. c .control .vstart ≡ 0) (put-vstart b) (result-vstart b p) (turnWith b p (s .rights) n)
+      (turn-keeps (J b p) (λ c. c .control .vstart ≡ 0) (all-keep (b .vlenb) _ (put-vstart b)) (result-vstart b p) (turnWith b p (s .rights) n)
       (pointOf b p s) refl)
 
   following-plan : (word n : ℕ) (s : State) (r : List ℕ) → planAt b word s ≡ p → (ranOf b p n s .ending ≡ finished → ⊥)
@@ -326,7 +340,7 @@ module _ (b : Board) (p : Plan) where
   following-plan word n s r e u =
       let q : Point (J b p) = ranOf b p n s .after in
       plan-besides b (q .state .scalars) (q .state .control) (q .vstart) (q .state .control .vxsat) (decodeOf word)
-      ∙ unfinished-keeps (J b p) (λ c. planOf b (c .scalars) (c .control) (decodeOf word) ≡ p) (put-plan b (decodeOf word) p)
+      ∙ unfinished-keeps (J b p) (λ c. planOf b (c .scalars) (c .control) (decodeOf word) ≡ p) (all-keep (b .vlenb) _ (put-plan b (decodeOf word) p))
       (turnWith b p (s .rights) n) (pointOf b p s) u
       (plan-besides b (s .scalars) (s .control) 0 (s .control .vxsat) (decodeOf word) ∙ e)
 

@@ -1,8 +1,8 @@
 -- What one element does: an element that is undisturbed does the same after an earlier one has written, and raised rights only lift faults.
-use Prim.Native.Nat.{ℕ, _+_, _-_, _%_, _≤_, _<_}
-use mathlib.Core.Path.{_≡_, refl, sym, ap, ap₂, subst}
+use Prim.Native.Nat.{ℕ, zero, suc, _+_, _-_, _%_, _≤_, _<_}
+use mathlib.Core.Path.{_≡_, refl, sym, ap, ap₂, _∙_, subst}
 use mathlib.Core.Bool.{Bool, true, false, not, _&&_, cond}
-use mathlib.Core.List.{List}
+use mathlib.Core.List.{List, [], _∷_}
 use native.Mathlib.Omega.{arith}
 use lib.ListN.{length, getD}
 use lib.Dec.{T, leb, eqb}
@@ -10,14 +10,13 @@ use borrow.Author.Tests.{leb-true, le-leb}
 use Rattle.fixed.specs.declared.Element.{Element}
 use Rattle.answer.specs.declared.Answer.the-variants.{TwoPages}
 use Rattle.control.specs.declared.Board.{Board}
-use Rattle.fixed.specs.Round.{exact}
-use Rattle.layout.specs.Layout.{bytesAt}
 use Rattle.layout.proofs.BytesLaws.{length-withBytes}
 use Rattle.group.specs.declared.Group.{Group}
+use Rattle.group.specs.Group.{nfields, fieldGroup}
 use Rattle.access.specs.declared.Fault.{Fault}
 use Rattle.access.specs.declared.AccessCheck.{AccessCheck}
 use Rattle.access.specs.declared.AccessCheck.the-variants.{Granted, Faulted}
-use Rattle.access.specs.Access.{faultAt, pageOf, needed, misaligned, denied, accessOf}
+use Rattle.access.specs.Access.{faultAt, pageOf, needed, misaligned, denied, accessOf, fieldAddress, orNext, fieldsAccess}
 use Rattle.plan.specs.declared.Read.the-variants as R
 use Rattle.plan.specs.declared.Action.{Action}
 use Rattle.plan.specs.declared.Action.the-variants as A
@@ -25,28 +24,28 @@ use Rattle.plan.specs.declared.Elementwise.{Elementwise}
 use Rattle.legality.specs.Legal.{writesRegisters}
 use Rattle.turn_theory.specs.Turn.{Effect, inactive, fault, write, faults}
 use Rattle.machine.specs.State.{Core}
-use Rattle.machine.specs.Effect.{Write, toRegisters, toMemory, putOf, valueOf, activeOf, elementAddress, ifGranted, actingOf}
-use Rattle.machine.specs.Effect.{effectOf}
+use Rattle.machine.specs.Effect.{Write, toRegisters, toMemory, putOf, putAll, valueOf, activeOf, elementAddress, ifGranted}
+use Rattle.machine.specs.Effect.{eachField, fieldWrite, transferring, actingOf, effectOf}
 use Rattle.machine.specs.Machine.{Opened}
 use Rattle.machine.proofs.PlanFacts.{Undisturbed}
 
 -- ---- effects are one thing or another
 
-fault≢write : (x : Fault) (w : Write) → _≡_ {A = Effect Fault Write} (fault x) (write w) → ⊥
-fault≢write x w h = let z : _≡_ {A = ℕ} 0 1 = cc in omega arith
+fault≢write : (x : Fault) (l : List Write) → _≡_ {A = Effect Fault (List Write)} (fault x) (write l) → ⊥
+fault≢write x l h = let z : _≡_ {A = ℕ} 0 1 = cc in omega arith
 
-inactive≢write : (w : Write) → _≡_ {A = Effect Fault Write} inactive (write w) → ⊥
-inactive≢write w h = let z : _≡_ {A = ℕ} 0 1 = cc in omega arith
+inactive≢write : (l : List Write) → _≡_ {A = Effect Fault (List Write)} inactive (write l) → ⊥
+inactive≢write l h = let z : _≡_ {A = ℕ} 0 1 = cc in omega arith
 
-write-same : (v w : Write) → _≡_ {A = Effect Fault Write} (write v) (write w) → w ≡ v
-write-same v w h = cc
+write-same : (l m : List Write) → _≡_ {A = Effect Fault (List Write)} (write l) (write m) → m ≡ l
+write-same l m h = cc
 
 -- ---- access
 
 -- an access that writes does what it is to do
-granted-write : (v : AccessCheck) (e : Effect Fault Write) (w : Write) → ifGranted v e ≡ write w → e ≡ write w
-granted-write Granted e w h = h
-granted-write (Faulted f) e w h = absurd (fault≢write f w h)
+granted-write : (v : AccessCheck) (e : Effect Fault (List Write)) (l : List Write) → ifGranted v e ≡ write l → e ≡ write l
+granted-write Granted e l h = h
+granted-write (Faulted f) e l h = absurd (fault≢write f l h)
 
 test-held : (t : Bool) (f : Fault) → cond t Granted (Faulted f) ≡ Granted → t ≡ true
 test-held true f h = refl
@@ -71,15 +70,28 @@ access-opened r r′ memory store a n o h =
         let m : needed store ≤ getD r (pageOf a) 0 = leb-true (needed store) (getD r (pageOf a) 0) k in
         rw (le-leb (needed store) (getD r′ (pageOf a) 0) (omega (arith, m, o .at-least (pageOf a))))
 
+-- fields that are granted are granted under raised rights, each and together
+or-next : (v w : AccessCheck) → orNext v w ≡ Granted → (v ≡ Granted) × (w ≡ Granted)
+or-next Granted w h = (refl, h)
+or-next (Faulted f) w h = absurd (let z : _≡_ {A = ℕ} 0 1 = cc in omega arith)
+
+fields-opened : (r r′ : List ℕ) (memory : ℕ) (store : Bool) (a n k others : ℕ) → Opened r r′
+    → fieldsAccess r memory store a n k others ≡ Granted → fieldsAccess r′ memory store a n k others ≡ Granted
+unfolding fieldsAccess
+fields-opened r r′ memory store a n k zero o h = h
+fields-opened r r′ memory store a n k (suc others) o h =
+    let both = or-next _ _ h in
+    rw (access-opened r r′ memory store (fieldAddress a n k) n o (both .0)) (fields-opened r r′ memory store a n (suc k) others o (both .1))
+
 -- an access that does not fault does the same under raised rights
-granted-opened : (r r′ : List ℕ) (memory : ℕ) (store : Bool) (a n : ℕ) (e : Effect Fault Write) → Opened r r′
-    → faults (ifGranted (accessOf r memory store a n) e) ≡ false
-    → ifGranted (accessOf r′ memory store a n) e ≡ ifGranted (accessOf r memory store a n) e
-granted-opened r r′ memory store a n e o = go (accessOf r memory store a n) refl
+granted-opened : (r r′ : List ℕ) (memory : ℕ) (store : Bool) (a n others : ℕ) (e : Effect Fault (List Write)) → Opened r r′
+    → faults (ifGranted (fieldsAccess r memory store a n 0 others) e) ≡ false
+    → ifGranted (fieldsAccess r′ memory store a n 0 others) e ≡ ifGranted (fieldsAccess r memory store a n 0 others) e
+granted-opened r r′ memory store a n others e o = go (fieldsAccess r memory store a n 0 others) refl
   where
-    go : (v : AccessCheck) → accessOf r memory store a n ≡ v → faults (ifGranted v e) ≡ false
-        → ifGranted (accessOf r′ memory store a n) e ≡ ifGranted v e
-    go Granted q h = ap (λ (v : AccessCheck). ifGranted v e) (access-opened r r′ memory store a n o q)
+    go : (v : AccessCheck) → fieldsAccess r memory store a n 0 others ≡ v → faults (ifGranted v e) ≡ false
+        → ifGranted (fieldsAccess r′ memory store a n 0 others) e ≡ ifGranted v e
+    go Granted q h = ap (λ (v : AccessCheck). ifGranted v e) (fields-opened r r′ memory store a n 0 others o q)
     go (Faulted f) q h = absurd (subst T h tt)
 
 -- ---- raised rights
@@ -88,8 +100,7 @@ acting-opened : (b : Board) (r r′ : List ℕ) (s : Core) (e : Elementwise) (i 
     → faults (actingOf b r s e i act) ≡ false → actingOf b r′ s e i act ≡ actingOf b r s e i act
 unfolding actingOf
 acting-opened b r r′ s e i (A.Compute k) o h = refl
-acting-opened b r r′ s e i (A.Load t) o h = granted-opened r r′ _ false _ (t .bytes) _ o h
-acting-opened b r r′ s e i (A.Store t) o h = granted-opened r r′ _ true _ (t .bytes) _ o h
+acting-opened b r r′ s e i (A.Transfer t) o h = granted-opened r r′ _ (t .store) _ (t .bytes) (nfields (e .dest)) _ o h
 
 pub effect-opened : (b : Board) (r r′ : List ℕ) (s : Core) (e : Elementwise) (i : ℕ) → Opened r r′
     → faults (effectOf b r s e i) ≡ false → effectOf b r′ s e i ≡ effectOf b r s e i
@@ -101,79 +112,123 @@ effect-opened b r r′ s e i o = go (activeOf (b .vlenb) (s .registers) (e .mask
     go true h = acting-opened b r r′ s e i (e .action) o h
     go false h = refl
 
--- ---- what an element may write: its element of the destination, or memory where it is a store
+-- ---- what each write keeps, all that an element writes keep
 
-data Wrote (d : Group) (j : ℕ) (w : Write) : Bool → Type 0 where
-  in-registers : (x : Element) → w ≡ toRegisters d j x → Wrote d j w true
-  in-memory : (a n x : ℕ) → w ≡ toMemory a n x → Wrote d j w false
+pub all-keep : (vlenb : ℕ) (P : Core → Type 0) → ((w : Write) (s : Core) → P s → P (putOf vlenb w s)) → (l : List Write) (s : Core) → P s
+    → P (putAll vlenb l s)
+unfolding putAll
+all-keep vlenb P f [] s h = h
+all-keep vlenb P f (w ∷ l) s h = all-keep vlenb P f l (putOf vlenb w s) (f w s h)
 
-acting-wrote : (b : Board) (r : List ℕ) (s : Core) (e : Elementwise) (j : ℕ) (w : Write) (act : Action)
-    → actingOf b r s e j act ≡ write w → Wrote (e .dest) j w (writesRegisters act)
+-- ---- what an element may write: its element of fields of the destination, or memory where it is a store
+
+data Wrote (d : Group) (j : ℕ) : Bool → List Write → Type 0 where
+  nothing : (t : Bool) → Wrote d j t []
+  in-registers : (k : ℕ) (g : Group) (x : Element) (l : List Write) → k ≤ d .nf → g .reg ≡ fieldGroup d k .reg → g .eew ≡ d .eew
+      → Wrote d j true l → Wrote d j true (toRegisters g j x ∷ l)
+  in-memory : (a n x : ℕ) (l : List Write) → Wrote d j false l → Wrote d j false (toMemory a n x ∷ l)
+
+module _ (vlenb : ℕ) (file memory : List ℕ) (d : Group) (n j a : ℕ) where
+  fields-wrote : (store : Bool) (k others : ℕ) → k + others ≤ nfields d
+      → Wrote d j (not store) (eachField (fieldWrite vlenb file memory store d n j a) k others)
+  unfolding eachField
+  fields-wrote store k zero h = nothing (not store)
+  fields-wrote true k (suc others) h = in-memory _ n _ _ (fields-wrote true (suc k) others (omega arith))
+  fields-wrote false k (suc others) h = in-registers k _ _ _ (omega arith) refl refl (fields-wrote false (suc k) others (omega arith))
+
+acting-wrote : (b : Board) (r : List ℕ) (s : Core) (e : Elementwise) (j : ℕ) (l : List Write) (act : Action)
+    → actingOf b r s e j act ≡ write l → Wrote (e .dest) j (writesRegisters act) l
 unfolding actingOf
-acting-wrote b r s e j w (A.Compute k) h = in-registers _ (write-same _ w h)
-acting-wrote b r s e j w (A.Load t) h =
+acting-wrote b r s e j l (A.Compute k) h =
+    rw (write-same _ l h) (in-registers 0 (e .dest) _ [] (omega arith) (omega arith) refl (nothing true))
+acting-wrote b r s e j l (A.Transfer t) h =
     let a : ℕ = elementAddress t j (valueOf (b .vlenb) (s .registers) (e .vs2) j) in
-    in-registers (exact (bytesAt (s .memory) a (t .bytes)))
-    (write-same _ w (granted-write (accessOf r (length (s .memory)) false a (t .bytes)) _ w h))
-acting-wrote b r s e j w (A.Store t) h =
-    let a : ℕ = elementAddress t j (valueOf (b .vlenb) (s .registers) (e .vs2) j) in
-    in-memory a (t .bytes) (valueOf (b .vlenb) (s .registers) (e .vd) j)
-    (write-same _ w (granted-write (accessOf r (length (s .memory)) true a (t .bytes)) _ w h))
+    rw (write-same _ l (granted-write (fieldsAccess r (length (s .memory)) (t .store) a (t .bytes) 0 (nfields (e .dest))) _ l h))
+    (fields-wrote (b .vlenb) (s .registers) (s .memory) (e .dest) (t .bytes) j a (t .store) 0 (nfields (e .dest)) (omega arith))
 
-effect-wrote : (b : Board) (r : List ℕ) (s : Core) (e : Elementwise) (j : ℕ) (w : Write) → effectOf b r s e j ≡ write w
-    → Wrote (e .dest) j w (writesRegisters (e .action))
+effect-wrote : (b : Board) (r : List ℕ) (s : Core) (e : Elementwise) (j : ℕ) (l : List Write) → effectOf b r s e j ≡ write l
+    → Wrote (e .dest) j (writesRegisters (e .action)) l
 unfolding effectOf
-effect-wrote b r s e j w = go (activeOf (b .vlenb) (s .registers) (e .masked) j)
+effect-wrote b r s e j l = go (activeOf (b .vlenb) (s .registers) (e .masked) j)
   where
-    go : (t : Bool) → cond t (actingOf b r s e j (e .action)) inactive ≡ write w → Wrote (e .dest) j w (writesRegisters (e .action))
-    go true h = acting-wrote b r s e j w (e .action) h
-    go false h = absurd (inactive≢write w h)
+    go : (t : Bool) → cond t (actingOf b r s e j (e .action)) inactive ≡ write l → Wrote (e .dest) j (writesRegisters (e .action)) l
+    go true h = acting-wrote b r s e j l (e .action) h
+    go false h = absurd (inactive≢write l h)
 
 -- ---- a later element after that
 
-module _ (b : Board) (r : List ℕ) (s : Core) (e : Elementwise) (j i : ℕ) (l : j < i) (m : i < e .end) where
-  module _ (x : Element) (u : Undisturbed (b .vlenb) e) where
+module _ (b : Board) (r : List ℕ) (e : Elementwise) (j i : ℕ) (l : j < i) (m : i < e .end) where
+  -- after one write to registers: a load loads from memory
+  module _ (s : Core) (k : ℕ) (x : Element) (n : k ≤ e .dest .nf) (u : Undisturbed (b .vlenb) e) where
     abbrev after : Core
-    after = putOf b (toRegisters (e .dest) j x) s
+    after = putOf (b .vlenb) (toRegisters (fieldGroup (e .dest) k) j x) s
 
     active-registers : activeOf (b .vlenb) (after .registers) (e .masked) i ≡ activeOf (b .vlenb) (s .registers) (e .masked) i
     unfolding putOf
-    active-registers = go (e .masked) (λ q. u .mask q (s .registers) j i (x .value) l m)
+    active-registers = go (e .masked) (λ q. u .mask q (s .registers) k j i (x .value) n l m)
       where
         go : (t : Bool) → (t ≡ true → valueOf (b .vlenb) (after .registers) (R.Bit 0) i ≡ valueOf (b .vlenb) (s .registers) (R.Bit 0) i)
             → activeOf (b .vlenb) (after .registers) t i ≡ activeOf (b .vlenb) (s .registers) t i
         go false f = refl
         go true f = unfold valueOf in ap (λ (y : ℕ). eqb y 1) (f refl)
 
+    loads-same : (store : Bool) (z a : ℕ) → not store ≡ true
+        → transferring (b .vlenb) r after store (e .dest) z i a ≡ transferring (b .vlenb) r s store (e .dest) z i a
+    unfolding putOf
+    loads-same true z a p = absurd (subst T (sym p) tt)
+    loads-same false z a p = refl
+
     acting-registers : (act : Action) → writesRegisters act ≡ true → actingOf b r after e i act ≡ actingOf b r s e i act
-    unfolding putOf actingOf
-    acting-registers (A.Compute k) t =
+    unfolding actingOf
+    acting-registers (A.Compute c) t = unfold putOf in
         let file : List ℕ = s .registers in
-        let n : ℕ = x .value in
-        rw (u .vs2 file j i n l m, u .vs1 file j i n l m, u .vd file j i n l m, u .v0 file j i n l m)
-    acting-registers (A.Load t) p = rw (u .vs2 (s .registers) j i (x .value) l m)
-    acting-registers (A.Store t) p = absurd (subst T (sym p) tt)
+        let v : ℕ = x .value in
+        rw (u .vs2 file k j i v n l m, u .vs1 file k j i v n l m, u .vd file k j i v n l m, u .v0 file k j i v n l m)
+    acting-registers (A.Transfer t) p =
+        loads-same (t .store) (t .bytes) _ p
+        ∙ ap (λ (o : ℕ). transferring (b .vlenb) r s (t .store) (e .dest) (t .bytes) i (elementAddress t i o))
+        (unfold putOf in u .vs2 (s .registers) k j i (x .value) n l m)
 
     registers-stable : writesRegisters (e .action) ≡ true → effectOf b r after e i ≡ effectOf b r s e i
     unfolding effectOf
-    registers-stable p = ap₂ (λ (t : Bool) (f : Effect Fault Write). cond t f inactive) active-registers (acting-registers (e .action) p)
+    registers-stable p =
+        ap₂ (λ (t : Bool) (f : Effect Fault (List Write)). cond t f inactive) active-registers (acting-registers (e .action) p)
 
-  module _ (a n x : ℕ) where
+  -- after one to memory: a store stores from registers
+  module _ (s : Core) (a n x : ℕ) where
+    stores-same : (store : Bool) (z o : ℕ) → not store ≡ false
+        → transferring (b .vlenb) r (putOf (b .vlenb) (toMemory a n x) s) store (e .dest) z i o
+        ≡ transferring (b .vlenb) r s store (e .dest) z i o
+    unfolding putOf
+    stores-same true z o p = rw (length-withBytes (s .memory) a n x)
+    stores-same false z o p = absurd (subst T p tt)
+
     acting-memory : (act : Action) → writesRegisters act ≡ false
-        → actingOf b r (putOf b (toMemory a n x) s) e i act ≡ actingOf b r s e i act
-    unfolding putOf actingOf
+        → actingOf b r (putOf (b .vlenb) (toMemory a n x) s) e i act ≡ actingOf b r s e i act
+    unfolding actingOf
     acting-memory (A.Compute k) p = absurd (subst T p tt)
-    acting-memory (A.Load t) p = absurd (subst T p tt)
-    acting-memory (A.Store t) p = rw (length-withBytes (s .memory) a n x)
+    acting-memory (A.Transfer t) p = unfold putOf in stores-same (t .store) (t .bytes) _ p
 
-    memory-stable : writesRegisters (e .action) ≡ false → effectOf b r (putOf b (toMemory a n x) s) e i ≡ effectOf b r s e i
+    memory-stable : writesRegisters (e .action) ≡ false → effectOf b r (putOf (b .vlenb) (toMemory a n x) s) e i ≡ effectOf b r s e i
     unfolding effectOf
     memory-stable p = rw (acting-memory (e .action) p) (unfold putOf in refl)
 
-  pub effect-stable : (w : Write) → (writesRegisters (e .action) ≡ true → Undisturbed (b .vlenb) e) → effectOf b r s e j ≡ write w
-      → effectOf b r (putOf b w s) e i ≡ effectOf b r s e i
-  effect-stable w f h = go (writesRegisters (e .action)) refl (effect-wrote b r s e j w h)
-    where
-      go : (t : Bool) → writesRegisters (e .action) ≡ t → Wrote (e .dest) j w t → effectOf b r (putOf b w s) e i ≡ effectOf b r s e i
-      go true p (in-registers x q) = rw q (registers-stable x (f p) p)
-      go false p (in-memory a n x q) = rw q (memory-stable a n x p)
+  -- a write by its register and its EEW
+  put-field : (s : Core) (k : ℕ) (g : Group) (x : Element) → g .reg ≡ fieldGroup (e .dest) k .reg → g .eew ≡ e .dest .eew
+      → putOf (b .vlenb) (toRegisters g j x) s ≡ putOf (b .vlenb) (toRegisters (fieldGroup (e .dest) k) j x) s
+  unfolding putOf
+  put-field s k g x p q = rw (p, q)
+
+  -- after all that an element writes
+  all-stable : (t : Bool) → writesRegisters (e .action) ≡ t → (t ≡ true → Undisturbed (b .vlenb) e) → (s : Core) (ws : List Write)
+      → Wrote (e .dest) j t ws
+      → effectOf b r (putAll (b .vlenb) ws s) e i ≡ effectOf b r s e i
+  unfolding putAll
+  all-stable t p u s _ (nothing _) = refl
+  all-stable _ p u s _ (in-registers k g x ws n q o w) =
+      all-stable true p u (putOf (b .vlenb) (toRegisters g j x) s) ws w ∙ rw (put-field s k g x q o) (registers-stable s k x n (u refl) p)
+  all-stable _ p u s _ (in-memory a n x ws w) = all-stable false p u (putOf (b .vlenb) (toMemory a n x) s) ws w ∙ memory-stable s a n x p
+
+  pub effect-stable : (s : Core) (ws : List Write) → (writesRegisters (e .action) ≡ true → Undisturbed (b .vlenb) e)
+      → effectOf b r s e j ≡ write ws → effectOf b r (putAll (b .vlenb) ws s) e i ≡ effectOf b r s e i
+  effect-stable s ws f h = all-stable (writesRegisters (e .action)) refl f s ws (effect-wrote b r s e j ws h)

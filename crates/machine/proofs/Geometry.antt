@@ -21,10 +21,9 @@ use Rattle.control.proofs.Laws.{lmul8-le, sew-ge, vlmax-le}
 use Rattle.layout.specs.Layout.{elementWidth}
 use Rattle.layout.proofs.ElementLaws.{Apart}
 use Rattle.group.specs.declared.Group.{Group}
-use Rattle.group.specs.Group.{emul8Of, maskGroup, registersOf, placedOf, mayOverlapOf}
+use Rattle.group.specs.Group.{emul8Of, maskGroup, registersOf, fieldGroup, spanOf, placedOf, mayOverlapOf}
 use Rattle.group.proofs.GroupLaws.{Placed, placed-facts, MayOverlap, below, above, equal, lowest, highest, overlap-cases, same-or-apart}
-use Rattle.group.proofs.GroupLaws.{ends-inside}
-use Rattle.plan.specs.Plan.{groupAt}
+use Rattle.plan.specs.Plan.{groupsAt}
 
 -- ---- powers of 2
 
@@ -75,12 +74,6 @@ width-at (suc (suc (suc (suc (suc (suc (suc e))))))) h k =
 
 power-width : (n : ℕ) → Power n → 8 ≤ n → n ≤ 64 → T (elementWidth n)
 power-width n p h k = subst (λ m. T (elementWidth m)) (sym (p .is)) (width-at (p .exponent) (rw (p .is) at h) (rw (p .is) at k))
-
-exponent-le : (n e : ℕ) → n ≡ 2 ^ e → n ≤ 64 → e ≤ 6
-exponent-le n e p h = by-order (decLt 6 e) where
-  by-order : Dec (6 < e) → e ≤ 6
-  by-order (yes l) = let m : 2 ^ 7 ≤ 2 ^ e = pow-mono {i = 7} l in absurd (omega arith)
-  by-order (no l) = omega arith
 
 -- ---- SEW and LMUL are powers of 2
 
@@ -156,20 +149,14 @@ vlmax-exact b v w h =
     (product-power (lmul8Of v) (b .vlenb) (lmul8-power v (lmul8-pos b v w h)) (record { exponent = w .lenb; is = w .power }))
     (sew-power v) (quotient-low _ _ (omega (arith, sew-ge v)) (sew-le-all b v w h))
 
--- ---- the extent of a group
+-- ---- the extent of a group, or of each of its fields
 
 pub record Extent (vlmax vlenb : ℕ) (g : Group) : Type 0 where
   pub width : T (elementWidth (g .eew))
   pub aligned : g .reg % registersOf g ≡ 0
   pub within : vlmax * g .eew ≤ registersOf g * (8 * vlenb)
   pub full : 8 ≤ g .emul8 → vlmax * g .eew ≡ registersOf g * (8 * vlenb)
-  pub ends : g .reg < 32 → g .reg + registersOf g ≤ 32
-
--- a group that is well placed ends at or below v31
-pub placed-ends : (elen : ℕ) (g : Group) → Power (g .emul8) → placedOf elen g ≡ true → g .reg < 32 → g .reg + registersOf g ≤ 32
-placed-ends elen g p t l =
-    let f : Placed elen g = placed-facts elen g t in
-    ends-inside g (p .exponent) (exponent-le (g .emul8) (p .exponent) (p .is) (f .emul-high)) (p .is) l (f .aligned)
+  pub ends : g .reg < 32 → g .reg + spanOf g ≤ 32
 
 pub mask-extent : (b : Board) (v reg : ℕ) → Extent (vlmaxOf b v) (b .vlenb) (maskGroup reg)
 mask-extent b v reg =
@@ -195,13 +182,13 @@ module _ (b : Board) (v : ℕ) (w : Valid b) (h : supportedOf b v ≡ true) (eew
   unfolding emul8Of
   registers-whole l = omega (arith, quotient-exact emul8 8 (emul8-quotient (omega arith) .power) (power-of 3) (omega arith))
 
-  module _ (reg : ℕ) where
+  module _ (reg nf : ℕ) where
     abbrev g : Group
-    g = groupAt v eew reg
+    g = groupsAt v eew reg nf
 
     -- a group of one register may have room to spare
     extent-if : T (elementWidth eew) → g .reg % registersOf g ≡ 0 → (emul8 < 8 → vlmaxOf b v * eew ≤ 8 * b .vlenb)
-        → (reg < 32 → reg + registersOf g ≤ 32)
+        → (reg < 32 → reg + spanOf g ≤ 32)
         → Extent (vlmaxOf b v) (b .vlenb) g
     extent-if t a small ends = record { width = t; aligned = a; within = by-size (decLt emul8 8); full = full; ends = ends } where
       full : 8 ≤ emul8 → vlmaxOf b v * eew ≡ registersOf g * (8 * b .vlenb)
@@ -219,18 +206,18 @@ module _ (b : Board) (v : ℕ) (w : Valid b) (h : supportedOf b v ≡ true) (eew
         let f : Placed (b .elen) g = placed-facts (b .elen) g t in
         extent-if (power-width eew p (f .eew-low) (omega (arith, f .eew-high, w .elen))) (f .aligned)
         (λ l. omega (arith, filled (f .emul-low), mul-le-mul-right (b .vlenb) l))
-        (placed-ends (b .elen) g (emul8-quotient (f .emul-low) .power) t)
+        (λ l. f .ends)
 
-    -- elements of one bit
-    bit-extent : eew ≡ 1 → Extent (vlmaxOf b v) (b .vlenb) g
+    -- elements of one bit, in one field
+    bit-extent : eew ≡ 1 → nf ≡ 0 → Extent (vlmaxOf b v) (b .vlenb) g
     unfolding emul8Of
-    bit-extent e =
+    bit-extent e z =
         extent-if (subst (λ n. T (elementWidth n)) (sym e) tt) (ap (λ (n : ℕ). reg % n) one ∙ mod-one) (λ l. omega (
           arith,
           vlmax-le b v,
           ap
               (λ (n : ℕ). vlmaxOf b v * n) e,
-        )) (λ l. omega (arith, one))
+        )) (λ l. omega (arith, one, ap (λ (n : ℕ). n * registersOf g) z))
       where
         most : emul8 ≤ 8
         most = div-le-of-le-mul (sewOf v) (omega (arith, ap (λ (n : ℕ). n * lmul8Of v) e, lmul8-le v, sew-ge v))
@@ -241,8 +228,9 @@ module _ (b : Board) (v : ℕ) (w : Valid b) (h : supportedOf b v ≡ true) (eew
         mod-one : reg % 1 ≡ 0
         mod-one = omega arith
 
-    pub extent : (eqb eew 1 || placedOf (b .elen) g) ≡ true → Extent (vlmaxOf b v) (b .vlenb) g
-    extent t = ⊎-elim (λ e. bit-extent (eqb-true eew 1 e)) placed-extent (or-cases (eqb eew 1) _ t)
+    pub extent : (eew ≡ 1 → nf ≡ 0) → (eqb eew 1 || placedOf (b .elen) g) ≡ true → Extent (vlmaxOf b v) (b .vlenb) g
+    extent z t =
+        ⊎-elim (λ e. let one : eew ≡ 1 = eqb-true eew 1 e in bit-extent one (z one)) placed-extent (or-cases (eqb eew 1) _ t)
 
 -- ---- the overlap rule
 
@@ -269,11 +257,15 @@ same-registers vlmax vlenb d g u x y e =
           fewer (registersOf g) (registersOf d) (omega (arith, room, x .full (omega arith), y .full (omega arith))),
         )
 
--- THE OVERLAP RULE SUFFICES, at every pair of EEWs: element j of the destination has no bit of a later element i of the source
-pub overlap-apart : (vlmax vlenb : ℕ) (d g : Group) (j i : ℕ) → 1 ≤ vlenb → Extent vlmax vlenb d → Extent vlmax vlenb g → j < i → i < vlmax
-    → mayOverlapOf d g ≡ true → Apart vlenb (d .reg) (d .eew) j (g .reg) (g .eew) i
-overlap-apart vlmax vlenb d g j i u x y l m h = by-case (overlap-cases d g h)
+-- THE OVERLAP RULE SUFFICES, at every pair of EEWs: element j of any field of the destination has no bit of a later element i of the source
+pub overlap-apart : (vlmax vlenb : ℕ) (d g : Group) (k j i : ℕ) → 1 ≤ vlenb → Extent vlmax vlenb d → Extent vlmax vlenb g → k ≤ d .nf
+    → j < i → i < vlmax → mayOverlapOf d g ≡ true → Apart vlenb (fieldGroup d k .reg) (d .eew) j (g .reg) (g .eew) i
+overlap-apart vlmax vlenb d g k j i u x y n l m h = by-case (overlap-cases d g k n h)
   where
+    -- an element of the destination from a register on
+    From : ℕ → Type 0
+    From reg = Apart vlenb reg (d .eew) j (g .reg) (g .eew) i
+
     -- the elements lie inside their groups, and j is before i
     d-inside : (j + 1) * d .eew ≤ registersOf d * (8 * vlenb)
     d-inside = let q : (j + 1) * d .eew ≤ vlmax * d .eew = mul-le-mul-right (d .eew) (omega arith) in omega (arith, x .within)
@@ -284,19 +276,18 @@ overlap-apart vlmax vlenb d g j i u x y l m h = by-case (overlap-cases d g h)
     before : (e : ℕ) → (j + 1) * e ≤ i * e
     before e = mul-le-mul-right e (omega arith)
 
-    below-apart : d .reg + registersOf d ≤ g .reg → Apart vlenb (d .reg) (d .eew) j (g .reg) (g .eew) i
-    below-apart t = inl (omega (arith, d-inside, mul-le-mul-right (8 * vlenb) t))
+    below-apart : (reg : ℕ) → reg + registersOf d ≤ g .reg → From reg
+    below-apart reg t = inl (omega (arith, d-inside, mul-le-mul-right (8 * vlenb) t))
 
-    above-apart : g .reg + registersOf g ≤ d .reg → Apart vlenb (d .reg) (d .eew) j (g .reg) (g .eew) i
-    above-apart t = inr (omega (arith, g-inside, mul-le-mul-right (8 * vlenb) t))
+    above-apart : (reg : ℕ) → g .reg + registersOf g ≤ reg → From reg
+    above-apart reg t = inr (omega (arith, g-inside, mul-le-mul-right (8 * vlenb) t))
 
     -- from the same register on, at no larger EEW
-    lowest-apart : d .eew ≤ g .eew → d .reg ≡ g .reg → Apart vlenb (d .reg) (d .eew) j (g .reg) (g .eew) i
+    lowest-apart : d .eew ≤ g .eew → d .reg ≡ g .reg → From (d .reg)
     lowest-apart t e = inl (omega (arith, before (d .eew), mul-le-mul-left i t, ap (λ (n : ℕ). vlenb * n) e))
 
     -- counted from the end of both, at a smaller EEW
-    highest-apart : g .eew < d .eew → g .reg + registersOf g ≡ d .reg + registersOf d → 8 ≤ g .emul8
-        → Apart vlenb (d .reg) (d .eew) j (g .reg) (g .eew) i
+    highest-apart : g .eew < d .eew → g .reg + registersOf g ≡ d .reg + registersOf d → 8 ≤ g .emul8 → From (d .reg)
     highest-apart t e k =
         let z : ℕ = d .eew - g .eew in
         let q : d .eew ≡ g .eew + z = omega arith in
@@ -312,22 +303,24 @@ overlap-apart vlmax vlenb d g j i u x y l m h = by-case (overlap-cases d g h)
               (n : ℕ). vlmax * n) q,
         ))
 
-    by-case : MayOverlap d g → Apart vlenb (d .reg) (d .eew) j (g .reg) (g .eew) i
-    by-case (below t) = below-apart t
-    by-case (above t) = above-apart t
-    by-case (equal e) =
-        ⊎-elim (lowest-apart (omega arith)) (⊎-elim below-apart above-apart)
-        (same-or-apart d g (same-registers vlmax vlenb d g u x y e) (x .aligned) (y .aligned))
-    by-case (lowest t e) = lowest-apart (omega arith) e
-    by-case (highest t e k) = highest-apart t e k
+    by-case : MayOverlap d g k → From (fieldGroup d k .reg)
+    by-case (below t) = below-apart (fieldGroup d k .reg) t
+    by-case (above t) = above-apart (fieldGroup d k .reg) t
+    by-case (equal z e) =
+        subst From (sym z)
+        (⊎-elim (lowest-apart (omega arith)) (⊎-elim (below-apart (d .reg)) (above-apart (d .reg)))
+        (same-or-apart d g (same-registers vlmax vlenb d g u x y e) (x .aligned) (y .aligned)))
+    by-case (lowest z t e) = subst From (sym z) (lowest-apart (omega arith) e)
+    by-case (highest z t e k) = subst From (sym z) (highest-apart t e k)
 
--- a destination that spares v0: element j has no later bit i of v0
-pub v0-apart : (vlenb : ℕ) (d : Group) (j i : ℕ) → j < i → i < 8 * vlenb → (not (eqb (d .reg) 0) || eqb (d .eew) 1) ≡ true
-    → Apart vlenb (d .reg) (d .eew) j 0 1 i
-v0-apart vlenb d j i l u h = by-register (decLt 0 (d .reg)) where
-  by-register : Dec (0 < d .reg) → Apart vlenb (d .reg) (d .eew) j 0 1 i
-  by-register (yes k) = inr (omega (arith, mul-le-mul-left vlenb k))
-  by-register (no k) =
+-- a destination that spares v0: element j of any field has no later bit i of v0
+pub v0-apart : (vlenb : ℕ) (d : Group) (k j i : ℕ) → j < i → i < 8 * vlenb → (not (eqb (d .reg) 0) || eqb (d .eew) 1) ≡ true
+    → Apart vlenb (fieldGroup d k .reg) (d .eew) j 0 1 i
+v0-apart vlenb d k j i l u h = by-register (decLt 0 (fieldGroup d k .reg)) where
+  by-register : Dec (0 < fieldGroup d k .reg) → Apart vlenb (fieldGroup d k .reg) (d .eew) j 0 1 i
+  by-register (yes n) = inr (omega (arith, mul-le-mul-left vlenb n))
+  by-register (no n) =
       let zero-reg : d .reg ≡ 0 = omega arith in
+      let first : fieldGroup d k .reg ≡ 0 = omega arith in
       let one : d .eew ≡ 1 = eqb-true (d .eew) 1 (subst (λ n. (not (eqb n 0) || eqb (d .eew) 1) ≡ true) zero-reg h) in
-      inl (omega (arith, ap (λ (n : ℕ). j * n) one, ap (λ (n : ℕ). vlenb * n) zero-reg))
+      inl (omega (arith, ap (λ (n : ℕ). j * n) one, ap (λ (n : ℕ). vlenb * n) first))

@@ -30,10 +30,10 @@ use Rattle.legality.proofs.LegalLaws.{elements-of-legal}
 use Rattle.turn_theory.specs.Turn.{write, faults, uncutAllowance}
 use Rattle.turn_theory.specs.Claims.{Lawful}
 use Rattle.machine.specs.State.{Core}
-use Rattle.machine.specs.Effect.{Write, toRegisters, toMemory, saturating, putOf}
+use Rattle.machine.specs.Effect.{Write, toRegisters, toMemory, saturating, putOf, putAll}
 use Rattle.machine.specs.Machine.{endOf, effectAt, orIllegal, rejectionAt, Opened, semanticsOf}
 use Rattle.machine.proofs.PlanFacts.{PlanSound}
-use Rattle.machine.proofs.EffectLaws.{effect-opened, effect-stable}
+use Rattle.machine.proofs.EffectLaws.{effect-opened, all-keep, effect-stable}
 
 -- ---- what is known where nothing is rejected, and that it suffices
 
@@ -106,7 +106,7 @@ acceptable-with b registers scalars memory r r′ c c′ e f p a =
       possible = p;
     }
 
-put-facts : (b : Board) (p : Plan) (r : List ℕ) (w : Write) (s : Core) (v : ℕ) → Facts b p r s v → Facts b p r (putOf b w s) v
+put-facts : (b : Board) (p : Plan) (r : List ℕ) (w : Write) (s : Core) (v : ℕ) → Facts b p r s v → Facts b p r (putOf (b .vlenb) w s) v
 unfolding putOf
 put-facts b p r (toRegisters g k x) s v f =
     let c : Control = withVstart (s .control) v in
@@ -140,13 +140,13 @@ unfolding elementsLegal
 elements-fit b c e h = both-right (isThere (e .action)) _ (both-right (not (e .typed) || startable b c) _ h)
 
 module _ (b : Board) (w : Valid b) where
-  stable : (p : Plan) → PlanSound b p → (r : List ℕ) (s : Core) (v j k : ℕ) (u : Write) → Facts b p r s v → j < k → k < endOf p
-      → effectAt b p r s j ≡ write u → effectAt b p r (putOf b u s) k ≡ effectAt b p r s k
+  stable : (p : Plan) → PlanSound b p → (r : List ℕ) (s : Core) (v j k : ℕ) (u : List Write) → Facts b p r s v → j < k → k < endOf p
+      → effectAt b p r s j ≡ write u → effectAt b p r (putAll (b .vlenb) u s) k ≡ effectAt b p r s k
   stable P.Illegal d r s v j k u f l m h = refl
   stable (P.OneTurn t) d r s v j k u f l m h = refl
   stable (P.Elements e) d r s v j k u f l m h =
       let c : Control = withVstart (s .control) v in
-      effect-stable b r s e j k l m u (d .undisturbed (elements-fit b c e (elements-of-legal b c e (f .legal))) (omega arith)) h
+      effect-stable b r e j k l m s u (d .undisturbed (elements-fit b c e (elements-of-legal b c e (f .legal))) (omega arith)) h
 
   raised : (p : Plan) (r r′ : List ℕ) (s : Core) (k : ℕ) → Opened r r′ → faults (effectAt b p r s k) ≡ false
       → effectAt b p r′ s k ≡ effectAt b p r s k
@@ -164,7 +164,8 @@ module _ (b : Board) (w : Valid b) where
       record {
         stable = λ r s v j k u h. stable p d r s v j k u (facts b p r s v h);
         put-count = λ u s. refl;
-        put-legal = λ r u s v h. facts-legal b p r (putOf b u s) v (put-facts b p r u s v (facts b p r s v h));
+        put-legal = λ r u s v h. facts-legal b p r (putAll (b .vlenb) u s) v
+            (all-keep (b .vlenb) (λ c. Facts b p r c v) (λ w c. put-facts b p r w c v) u s (facts b p r s v h));
         raised = raised p;
         raised-legal = λ r r′ s v o h. facts-legal b p r′ s v (opened-facts b p r r′ s v o (facts b p r s v h));
         bounded = λ r s v h. bounded p d;

@@ -31,7 +31,7 @@ use Rattle.decode.specs.Fields.{ModeFits, AccessFits, Fits}
 use Rattle.layout.specs.Layout.{withElement, elementWidth}
 use Rattle.layout.proofs.ElementLaws as Element
 use Rattle.group.specs.declared.Group.{Group}
-use Rattle.group.specs.Group.{maskGroup, placedOf, mayOverlapOf, sparesV0}
+use Rattle.group.specs.Group.{maskGroup, fieldGroup, placedOf, mayOverlapOf, sparesV0}
 use Rattle.plan.specs.declared.Read.{Read}
 use Rattle.plan.specs.declared.Read.the-variants as R
 use Rattle.plan.specs.declared.Action.the-variants as A
@@ -40,7 +40,7 @@ use Rattle.plan.specs.declared.Elementwise.{Elementwise}
 use Rattle.plan.proofs.AccessLaws.{one-of, eew-low, whole-le}
 use Rattle.plan.specs.declared.Plan.{Plan}
 use Rattle.plan.specs.declared.Plan.the-variants as P
-use Rattle.plan.specs.Plan.{groupAt, readAt, groupOf, secondOf, v0Read, shapedOf, computingOf, movingOf, byMode, planOf}
+use Rattle.plan.specs.Plan.{groupAt, groupsAt, readAt, groupOf, secondOf, v0Read, shapedOf, computingOf, movingOf, byMode, planOf}
 use Rattle.legality.specs.Legal.{readFits, writesRegisters, isBit, operandsFit}
 use Rattle.machine.specs.Effect.{valueOf}
 use Rattle.machine.proofs.Geometry.{Power, power-of, product-power, quotient-power, quotient-low, sew-power, Extent, mask-extent}
@@ -67,11 +67,12 @@ legal-facts elen e h t = subst (λ (p : Bool). Legal elen p e) t (legal-at elen 
 pub data Operand (v : ℕ) : Read → Type 0 where
   constant : (n : ℕ) → Operand v (R.Constant n)
   bit : (reg : ℕ) → Operand v (R.Bit reg)
-  element : (eew reg : ℕ) → Power eew → Operand v (R.Element (groupAt v eew reg))
+  element : (eew reg nf : ℕ) → Power eew → (eew ≡ 1 → nf ≡ 0) → Operand v (R.Element (groupsAt v eew reg nf))
 
 part : (v k reg : ℕ) → 1 ≤ k → k ≤ 8 → Power k → Operand v (R.Element (groupAt v (sewOf v / k) reg))
 part v k reg l u p =
-    element (sewOf v / k) reg (quotient-power (sewOf v) k (sew-power v) p (quotient-low (sewOf v) k l (omega (arith, sew-ge v))))
+    element (sewOf v / k) reg 0 (quotient-power (sewOf v) k (sew-power v) p (quotient-low (sewOf v) k l (omega (arith, sew-ge v))))
+    (λ e. refl)
 
 read-operand : (v : ℕ) (size : Size) (reg : ℕ) → Operand v (readAt v size reg)
 unfolding readAt
@@ -80,8 +81,8 @@ read-operand v Bit reg = bit reg
 read-operand v Eighth reg = part v 8 reg (lit≤ tt) (lit≤ tt) (power-of 3)
 read-operand v Quarter reg = part v 4 reg (lit≤ tt) (lit≤ tt) (power-of 2)
 read-operand v Half reg = part v 2 reg (lit≤ tt) (lit≤ tt) (power-of 1)
-read-operand v Single reg = element (sewOf v) reg (sew-power v)
-read-operand v Double reg = element (2 * sewOf v) reg (product-power 2 (sewOf v) (power-of 1) (sew-power v))
+read-operand v Single reg = element (sewOf v) reg 0 (sew-power v) (λ e. refl)
+read-operand v Double reg = element (2 * sewOf v) reg 0 (product-power 2 (sewOf v) (power-of 1) (sew-power v)) (λ e. refl)
 
 second-operand : (x : List ℕ) (v : ℕ) (size : Size) (unsigned : Bool) (s : Source) → Operand v (secondOf x v size unsigned s)
 unfolding secondOf
@@ -92,12 +93,12 @@ second-operand x v size unsigned (Immediate n) = constant _
 if-operand : (v : ℕ) (t : Bool) (r : Read) → Operand v r → Operand v (cond t r (R.Constant 0))
 if-operand v t r o = either (Operand v) t r (R.Constant 0) (λ h. o) (λ h. constant 0)
 
--- ---- what a later element reads, after an element of the destination was written
+-- ---- what a later element reads, after an element of a field of the destination was written
 
 abbrev pub Kept : ℕ → ℕ → Group → Read → Type 0
 Kept vlenb end d r =
-    (file : List ℕ) (j i x : ℕ) → j < i → i < end
-    → valueOf vlenb (withElement vlenb file (d .reg) (d .eew) j x) r i ≡ valueOf vlenb file r i
+    (file : List ℕ) (k j i x : ℕ) → k ≤ d .nf → j < i → i < end
+    → valueOf vlenb (withElement vlenb file (fieldGroup d k .reg) (d .eew) j x) r i ≡ valueOf vlenb file r i
 
 pub record Undisturbed (vlenb : ℕ) (e : Elementwise) : Type 0 where
   pub vs2 : Kept vlenb (e .end) (e .dest) (e .vs2)
@@ -108,7 +109,7 @@ pub record Undisturbed (vlenb : ℕ) (e : Elementwise) : Type 0 where
 
 constant-kept : (vlenb end : ℕ) (d : Group) (n : ℕ) → Kept vlenb end d (R.Constant n)
 unfolding valueOf
-constant-kept vlenb end d n file j i x l u = refl
+constant-kept vlenb end d n file k j i x m l u = refl
 
 -- v0 as the mask or as an operand
 pub data OfV0 : Read → Type 0 where
@@ -125,8 +126,8 @@ v0-of Z.Unused masked = unused
 bit-kept : (vlenb end : ℕ) (d : Group) → T (elementWidth (d .eew)) → end ≤ 8 * vlenb → (not (eqb (d .reg) 0) || eqb (d .eew) 1) ≡ true
     → Kept vlenb end d (R.Bit 0)
 unfolding valueOf
-bit-kept vlenb end d t m h file j i x l u =
-    Element.apart vlenb file (d .reg) (d .eew) j x 0 1 i t tt (v0-apart vlenb d j i l (omega arith) h)
+bit-kept vlenb end d t m h file k j i x n l u =
+    Element.apart vlenb file (fieldGroup d k .reg) (d .eew) j x 0 1 i t tt (v0-apart vlenb d k j i l (omega arith) h)
 
 spared : (p : Bool) (d : Group) → sparesV0 p d ≡ true → p ≡ true → (not (eqb (d .reg) 0) || eqb (d .eew) 1) ≡ true
 unfolding sparesV0
@@ -154,14 +155,14 @@ module _ (b : Board) (v : ℕ) (w : Valid b) (h : supportedOf b v ≡ true) wher
       → Extent (vlmaxOf b v) (b .vlenb) (groupOf r)
   dest-extent _ (constant n) t = mask-extent b v 0
   dest-extent _ (bit reg) t = mask-extent b v reg
-  dest-extent _ (element eew reg p) t = extent b v w h eew p reg t
+  dest-extent _ (element eew reg nf p z) t = extent b v w h eew p reg nf z t
 
   module _ (end : ℕ) (d : Group) (most : end ≤ vlmaxOf b v) (x : Extent (vlmaxOf b v) (b .vlenb) d) where
     source-kept : (g : Group) → Extent (vlmaxOf b v) (b .vlenb) g → mayOverlapOf d g ≡ true → Kept (b .vlenb) end d (R.Element g)
     unfolding valueOf
-    source-kept g y o file j i n l u =
-        Element.apart (b .vlenb) file (d .reg) (d .eew) j n (g .reg) (g .eew) i (x .width) (y .width)
-        (overlap-apart (vlmaxOf b v) (b .vlenb) d g j i (w .some) x y l (omega arith) o)
+    source-kept g y o file k j i n m l u =
+        Element.apart (b .vlenb) file (fieldGroup d k .reg) (d .eew) j n (g .reg) (g .eew) i (x .width) (y .width)
+        (overlap-apart (vlmaxOf b v) (b .vlenb) d g k j i (w .some) x y m l (omega arith) o)
 
     -- a bit reads as an element of a mask register
     mask-kept : (reg : ℕ) → mayOverlapOf d (maskGroup reg) ≡ true → Kept (b .vlenb) end d (R.Bit reg)
@@ -172,10 +173,10 @@ module _ (b : Board) (v : ℕ) (w : Valid b) (h : supportedOf b v ≡ true) wher
     unfolding readFits
     operand-kept _ (constant n) t = constant-kept (b .vlenb) end d n
     operand-kept _ (bit reg) t = mask-kept reg t
-    operand-kept _ (element eew reg p) t =
-        let g : Group = groupAt v eew reg in
+    operand-kept _ (element eew reg nf p z) t =
+        let g : Group = groupsAt v eew reg nf in
         let q : placedOf (b .elen) g ≡ true = both-left (placedOf (b .elen) g) (mayOverlapOf d g) t in
-        source-kept g (placed-extent b v w h eew p reg q) (both-right (placedOf (b .elen) g) (mayOverlapOf d g) t)
+        source-kept g (placed-extent b v w h eew p reg nf q) (both-right (placedOf (b .elen) g) (mayOverlapOf d g) t)
 
 -- an instruction whose operands go by a supported vtype v
 pub record Typed (b : Board) (v : ℕ) (e : Elementwise) : Type 0 where
@@ -242,10 +243,6 @@ eew-power a f = one-of Power 8 16 32 64 (power-of 3) (power-of 4) (power-of 5) (
 pub eew-width : (a : Access) → AccessFits a → T (elementWidth (a .eew))
 eew-width a f = one-of (λ n. T (elementWidth n)) 8 16 32 64 tt tt tt tt (a .eew) (f .eew)
 
-not-store : (p : Bool) (t : Transfer) → writesRegisters (cond p (A.Store t) (A.Load t)) ≡ true → p ≡ false
-not-store true t h = sym h
-not-store false t h = refl
-
 module _ (b : Board) (x : List ℕ) (c : Control) (a : Access) (w : Valid b) (t : Possible b c) (f : AccessFits a) where
   pub mode-end : (m : Mode) → ModeFits m → byMode b x c a m .end ≤ 8 * b .vlenb
   unfolding byMode movingOf
@@ -258,21 +255,21 @@ module _ (b : Board) (x : List ℕ) (c : Control) (a : Access) (w : Valid b) (t 
       div-le-of-le-mul (a .eew) all
 
   -- a group at the vtype, alone or beside a group of offsets
-  grouped : (eew : ℕ) (offset : Read) (z : Transfer) → Power eew → Operand (c .vtype) offset → 0 < c .vl
-      → Typed b (c .vtype) (movingOf a true (groupAt (c .vtype) eew (a .vd)) offset z (c .vl))
+  grouped : (eew : ℕ) (offset : Read) (z : Transfer) → Power eew → 8 ≤ eew → Operand (c .vtype) offset → 0 < c .vl
+      → Typed b (c .vtype) (movingOf a true (groupsAt (c .vtype) eew (a .vd) (a .nf)) offset z (c .vl))
   unfolding movingOf
-  grouped eew offset z p o l =
+  grouped eew offset z p m o l =
       let s = supported b c t l in
-      let d = element eew (a .vd) p in
+      let d = element eew (a .vd) (a .nf) p (λ e. absurd (omega arith)) in
       record {
         supported = s .0;
         end = s .1;
-        written = R.Element (groupAt (c .vtype) eew (a .vd));
+        written = R.Element (groupsAt (c .vtype) eew (a .vd) (a .nf));
         operand = d;
         dest = refl;
         vs2 = o;
         vs1 = constant 0;
-        vd = if-operand (c .vtype) (a .store) (R.Element (groupAt (c .vtype) eew (a .vd))) d;
+        vd = if-operand (c .vtype) (z .store) (R.Element (groupsAt (c .vtype) eew (a .vd) (a .nf))) d;
         v0 = unused;
       }
 
@@ -281,16 +278,17 @@ module _ (b : Board) (x : List ℕ) (c : Control) (a : Access) (w : Valid b) (t 
 
   pub unit-typed : 0 < c .vl → Goes M.UnitStride
   unfolding byMode
-  unit-typed = grouped (a .eew) (R.Constant 0) _ (eew-power a f) (constant 0)
+  unit-typed = grouped (a .eew) (R.Constant 0) _ (eew-power a f) (eew-low a f) (constant 0)
 
   pub strided-typed : (r : ℕ) → 0 < c .vl → Goes (M.Strided r)
   unfolding byMode
-  strided-typed r = grouped (a .eew) (R.Constant 0) _ (eew-power a f) (constant 0)
+  strided-typed r = grouped (a .eew) (R.Constant 0) _ (eew-power a f) (eew-low a f) (constant 0)
 
   pub indexed-typed : (r : ℕ) → 0 < c .vl → Goes (M.Indexed r)
   unfolding byMode
   indexed-typed r =
-      grouped (sewOf (c .vtype)) (R.Element (groupAt (c .vtype) (a .eew) r)) _ (sew-power (c .vtype)) (element (a .eew) r (eew-power a f))
+      grouped (sewOf (c .vtype)) (R.Element (groupAt (c .vtype) (a .eew) r)) _ (sew-power (c .vtype)) (sew-ge (c .vtype))
+      (element (a .eew) r 0 (eew-power a f) (λ e. refl))
 
   -- registers whatever the vtype: they are beside no other operand than the mask
   alone : (typed : Bool) (g : Group) (z : Transfer) (end : ℕ) → T (elementWidth (g .eew)) → end ≤ 8 * b .vlenb
@@ -303,7 +301,7 @@ module _ (b : Board) (x : List ℕ) (c : Control) (a : Access) (w : Valid b) (t 
       record {
         vs2 = same 0;
         vs1 = same 0;
-        vd = subst (λ (p : Bool). Kept (b .vlenb) end g (cond p (R.Element g) (R.Constant 0))) (sym (not-store (a .store) _ r)) (same 0);
+        vd = either (Kept (b .vlenb) end g) (z .store) (R.Element g) (R.Constant 0) (λ p. absurd (subst T (sym (rw p at r)) tt)) (λ p. same 0);
         v0 = same 0;
         mask = λ q. bit-kept (b .vlenb) end g k m (mask-spared (a .masked) (R.Constant 0) g (legal-facts (b .elen) e h r .v0) q);
       }

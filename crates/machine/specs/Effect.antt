@@ -1,8 +1,8 @@
 -- What one element does, by the state before (document 01, 'The definition': "The state before alone decides what each active one writes
 -- and whether it faults or saturates").
-use Prim.Native.Nat.{ℕ, _+_, _*_, _%_, _^_}
+use Prim.Native.Nat.{ℕ, zero, suc, _+_, _*_, _%_, _^_}
 use mathlib.Core.Bool.{Bool, false, true, not, _||_, cond}
-use mathlib.Core.List.{List}
+use mathlib.Core.List.{List, [], _∷_}
 use lib.ListN.{length}
 use lib.Dec.{eqb}
 use Rattle.fixed.specs.declared.Element.{Element}
@@ -13,10 +13,11 @@ use Rattle.control.specs.declared.Control.{Control}
 use Rattle.control.specs.Control.{withVxsat}
 use Rattle.layout.specs.Layout.{bytesAt, withBytes, elementAt, withElement}
 use Rattle.group.specs.declared.Group.{Group}
+use Rattle.group.specs.Group.{nfields, fieldGroup}
 use Rattle.access.specs.declared.Fault.{Fault}
 use Rattle.access.specs.declared.AccessCheck.{AccessCheck}
 use Rattle.access.specs.declared.AccessCheck.the-variants.{Granted, Faulted}
-use Rattle.access.specs.Access.{accessOf}
+use Rattle.access.specs.Access.{fieldAddress, fieldsAccess}
 use Rattle.plan.specs.declared.Read.{Read}
 use Rattle.plan.specs.declared.Read.the-variants as R
 use Rattle.plan.specs.declared.Action.{Action}
@@ -27,7 +28,7 @@ use Rattle.plan.specs.declared.Elementwise.{Elementwise}
 use Rattle.turn_theory.specs.Turn.{Effect, inactive, fault, write}
 use Rattle.machine.specs.State.{Core, withRegisters, withMemory, withControl}
 
--- what an element writes: its element of the destination, or n bytes of memory at an address
+-- what is written in one place: element i of a group, or n bytes of memory at an address
 pub data Write : Type 0 where
   toRegisters : Group → ℕ → Element → Write
   toMemory : ℕ → ℕ → ℕ → Write
@@ -36,11 +37,16 @@ pub data Write : Type 0 where
 abbrev pub saturating : Bool → Control → Control
 saturating sat c = withVxsat c (cond sat 1 (c .vxsat))
 
-unfoldable pub putOf : Board → Write → Core → Core
-putOf b (toRegisters g i r) s =
+unfoldable pub putOf : ℕ → Write → Core → Core
+putOf vlenb (toRegisters g i r) s =
     withControl (saturating (r .saturates) (s .control))
-    (withRegisters (withElement (b .vlenb) (s .registers) (g .reg) (g .eew) i (r .value)) s)
-putOf b (toMemory a n x) s = withMemory (withBytes (s .memory) a n x) s
+    (withRegisters (withElement vlenb (s .registers) (g .reg) (g .eew) i (r .value)) s)
+putOf vlenb (toMemory a n x) s = withMemory (withBytes (s .memory) a n x) s
+
+-- an element writes in one place, a segment in one for each field
+unfoldable pub putAll : ℕ → List Write → Core → Core
+putAll vlenb [] s = s
+putAll vlenb (w ∷ others) s = putAll vlenb others (putOf vlenb w s)
 
 -- an operand's element
 unfoldable pub valueOf : ℕ → List ℕ → Read → ℕ → ℕ
@@ -52,17 +58,17 @@ valueOf vlenb file (R.Bit reg) i = elementAt vlenb file reg 1 i
 abbrev pub activeOf : ℕ → List ℕ → Bool → ℕ → Bool
 activeOf vlenb file masked i = not masked || eqb (elementAt vlenb file 0 1 i) 1
 
--- "addresses modulo 2^64"
+-- "addresses modulo 2^64"; of a segment, that of its first field
 abbrev pub elementAddress : Transfer → ℕ → ℕ → ℕ
 elementAddress t i offset = (t .base + i * t .stride + offset) % 2 ^ 64
 
 -- an access that is granted does what it is to do
-abbrev pub ifGranted : AccessCheck → Effect Fault Write → Effect Fault Write
+abbrev pub ifGranted : AccessCheck → Effect Fault (List Write) → Effect Fault (List Write)
 ifGranted Granted e = e
 ifGranted (Faulted f) e = fault f
 
 -- an operation on the operands' elements
-abbrev pub computing : ℕ → List ℕ → Elementwise → Compute → ℕ → Effect Fault Write
+abbrev pub computing : ℕ → List ℕ → Elementwise → Compute → ℕ → Effect Fault (List Write)
 computing vlenb file e k i =
     write (toRegisters (e .dest) i
     (elementOf (k .sew) (k .vxrm)
@@ -70,26 +76,32 @@ computing vlenb file e k i =
     (valueOf vlenb file (e .vs1) i)
     (valueOf vlenb file (e .vd) i)
     (valueOf vlenb file (e .v0) i)
-    (k .op)))
+    (k .op)) ∷ [])
 
--- a load and a store of the element at an address a
-abbrev pub loading : List ℕ → Core → Elementwise → Transfer → ℕ → ℕ → Effect Fault Write
-loading rights s e t i a =
-    ifGranted (accessOf rights (length (s .memory)) false a (t .bytes))
-    (write (toRegisters (e .dest) i (exact (bytesAt (s .memory) a (t .bytes)))))
+-- one write for each of so many fields, from field k on
+unfoldable pub eachField : (ℕ → Write) → ℕ → ℕ → List Write
+eachField f k zero = []
+eachField f k (suc others) = f k ∷ eachField f (suc k) others
 
-abbrev pub storing : List ℕ → Core → Transfer → ℕ → ℕ → Effect Fault Write
-storing rights s t x a =
-    ifGranted (accessOf rights (length (s .memory)) true a (t .bytes)) (write (toMemory a (t .bytes) x))
+-- field k of element i of the group g, where the first field lies at the address a: what a store stores of it, or a load loads
+abbrev pub fieldWrite : ℕ → List ℕ → List ℕ → Bool → Group → ℕ → ℕ → ℕ → ℕ → Write
+fieldWrite vlenb file memory store g n i a k =
+    cond store (toMemory (fieldAddress a n k) n (valueOf vlenb file (R.Element (fieldGroup g k)) i))
+    (toRegisters (fieldGroup g k) i (exact (bytesAt memory (fieldAddress a n k) n)))
+
+-- element i, of each field: "a faulting segment moves nothing" (document 02, A1)
+abbrev pub transferring : ℕ → List ℕ → Core → Bool → Group → ℕ → ℕ → ℕ → Effect Fault (List Write)
+transferring vlenb rights s store g n i a =
+    ifGranted (fieldsAccess rights (length (s .memory)) store a n 0 (nfields g))
+    (write (eachField (fieldWrite vlenb (s .registers) (s .memory) store g n i a) 0 (nfields g)))
 
 module _ (b : Board) (rights : List ℕ) (s : Core) (e : Elementwise) (i : ℕ) where
-  unfoldable pub actingOf : Action → Effect Fault Write
+  unfoldable pub actingOf : Action → Effect Fault (List Write)
   actingOf (A.Compute k) = computing (b .vlenb) (s .registers) e k i
-  actingOf (A.Load t) = loading rights s e t i (elementAddress t i (valueOf (b .vlenb) (s .registers) (e .vs2) i))
-  actingOf (A.Store t) =
-      storing rights s t (valueOf (b .vlenb) (s .registers) (e .vd) i)
+  actingOf (A.Transfer t) =
+      transferring (b .vlenb) rights s (t .store) (e .dest) (t .bytes) i
       (elementAddress t i (valueOf (b .vlenb) (s .registers) (e .vs2) i))
 
   -- "Masked-off elements touch no memory and can't fault"
-  unfoldable pub effectOf : Effect Fault Write
+  unfoldable pub effectOf : Effect Fault (List Write)
   effectOf = cond (activeOf (b .vlenb) (s .registers) (e .masked) i) (actingOf (e .action)) inactive

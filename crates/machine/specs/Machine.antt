@@ -22,7 +22,7 @@ use Rattle.plan.specs.Plan.{planOf}
 use Rattle.legality.specs.Legal.{legalOf}
 use Rattle.turn_theory.specs.Turn.{Effect, inactive, Ending, finished, paused, trapped, rejected, Semantics, TurnEnd, turn}
 use Rattle.machine.specs.State.{State, Outcome, Core, coreOf, stateOf}
-use Rattle.machine.specs.Effect.{Write, putOf, effectOf}
+use Rattle.machine.specs.Effect.{Write, putAll, effectOf}
 use Rattle.machine.specs.OneTurn.{oneTurnResult}
 
 -- ---- a plan as the theory of turns sees it
@@ -40,7 +40,7 @@ orIllegal Accepted o = o
 orIllegal (Refused a) o = some a
 
 module _ (b : Board) where
-  abbrev pub effectAt : Plan → List ℕ → Core → ℕ → Effect Fault Write
+  abbrev pub effectAt : Plan → List ℕ → Core → ℕ → Effect Fault (List Write)
   effectAt P.Illegal rights s i = inactive
   effectAt (P.OneTurn t) rights s i = inactive
   effectAt (P.Elements e) rights s i = effectOf b rights s e i
@@ -71,13 +71,13 @@ abbrev pub semanticsOf : Board → Plan → Semantics
 semanticsOf b p = record {
   State = Core;
   Rights = List ℕ;
-  Write = Write;
+  Write = List Write;
   Fault = Fault;
   Rejection = Answer;
   rejection = rejectionAt b p;
   count = λ (s : Core). endOf p;
   effect = effectAt b p;
-  put = putOf b;
+  put = putAll (b .vlenb);
   finish = resultAt b p;
   Opens = Opened;
 }

@@ -1,14 +1,15 @@
 -- Loads and stores, from what the code has computed: one law for each addressing mode, over plain variables; and the bounds that they need.
-use Prim.Native.Nat.{ℕ, _+_, _*_, _/_, _≤_, _<_}
+use Prim.Native.Nat.{ℕ, _+_, _*_, _/_, _^_, _≤_, _<_}
 use mathlib.Core.Path.{_≡_, sym, ap, subst, _∙_}
 use mathlib.Core.Bool.{true, false}
 use mathlib.Core.Logic.{⊎-elim}
 use mathlib.Core.List.{List, [], _∷_}
 use native.Mathlib.Nat.{mul-le-mul}
+use native.Mathlib.Numerals.{add-one}
 use native.Mathlib.Omega.{arith}
 use lib.Dec.{lit≤}
 use types.Run.{OneOf}
-use mir.Syntax.{w64}
+use mir.Syntax.{w32, w64}
 use mir.Val.{Fits}
 use Rattle.control.specs.declared.Board.{Board}
 use Rattle.control.specs.declared.Control.{Control}
@@ -22,7 +23,7 @@ use Rattle.group.specs.declared.Group.{Group}
 use Rattle.plan.specs.declared.Read.the-variants as R
 use Rattle.plan.specs.declared.Transfer.{Transfer}
 use Rattle.plan.specs.declared.Elementwise.{Elementwise}
-use Rattle.plan.specs.Plan.{scalarOf, groupAt, movingOf, byMode, transferringOf}
+use Rattle.plan.specs.Plan.{scalarOf, groupAt, groupsAt, movingOf, byMode, transferringOf}
 
 -- ---- bounds
 
@@ -52,6 +53,16 @@ whole-most a n e f = whole-le n (subst ModeFits e (f .mode))
 pub whole-emul : (a : Access) (n : ℕ) → a .mode ≡ M.Whole n → AccessFits a → Fits w64 (8 * n)
 whole-emul a n e f = omega (arith, whole-most a n e f)
 
+pub whole-emul32 : (a : Access) (n : ℕ) → a .mode ≡ M.Whole n → AccessFits a → Fits w32 (8 * n)
+whole-emul32 a n e f = omega (arith, whole-most a n e f)
+
+-- the bytes of a segment
+pub segment-fits : (a : Access) → AccessFits a → Fits w32 (a .nf) → Fits w64 ((a .nf + 1) * (a .eew / 8))
+segment-fits a f h =
+    let l : a .nf + 1 ≤ 2 ^ 32 = omega (arith, h .fits) in
+    let m : a .eew / 8 ≤ 256 = omega (arith, access-most a f) in
+    record { fits = omega (arith, mul-le-mul l m) }
+
 pub whole-bits : (b : Board) (a : Access) (n : ℕ) → a .mode ≡ M.Whole n → AccessFits a → Valid b → Fits w64 (n * (8 * b .vlenb))
 whole-bits b a n e f v =
     let h : 8 * b .vlenb ≤ 128 = omega (arith, v .most) in
@@ -67,30 +78,31 @@ in-mode b x c a m r e h = h ∙ ap (byMode b x c a) (sym e)
 module _ (b : Board) (x : List ℕ) (c : Control) (a : Access) (base : ℕ) (t : Transfer) (g : Group) (r : Elementwise)
     (p : base ≡ scalarOf x (a .rs1)) where
   abbrev Steps : ℕ → ℕ → Type 0
-  Steps stride bytes = t ≡ record { base = base; stride = stride; bytes = bytes }
+  Steps stride bytes = t ≡ record { store = a .store; base = base; stride = stride; bytes = bytes }
 
-  pub unit-is : a .mode ≡ M.UnitStride → Steps (a .eew / 8) (a .eew / 8) → g ≡ groupAt (c .vtype) (a .eew) (a .vd)
+  pub unit-is : a .mode ≡ M.UnitStride → Steps ((a .nf + 1) * (a .eew / 8)) (a .eew / 8) → g ≡ groupsAt (c .vtype) (a .eew) (a .vd) (a .nf)
       → r ≡ movingOf a true g (R.Constant 0) t (c .vl) → r ≡ transferringOf b x c a
   unfolding byMode
-  unit-is e s h k = in-mode b x c a M.UnitStride r e (rw (k, h, s, p))
+  unit-is e s h k = in-mode b x c a M.UnitStride r e (rw (k, h, s, p, add-one))
 
   pub strided-is : (n stride : ℕ) → a .mode ≡ M.Strided n → stride ≡ scalarOf x n → Steps stride (a .eew / 8)
-      → g ≡ groupAt (c .vtype) (a .eew) (a .vd) → r ≡ movingOf a true g (R.Constant 0) t (c .vl) → r ≡ transferringOf b x c a
+      → g ≡ groupsAt (c .vtype) (a .eew) (a .vd) (a .nf) → r ≡ movingOf a true g (R.Constant 0) t (c .vl) → r ≡ transferringOf b x c a
   unfolding byMode
   strided-is n stride e q s h k = in-mode b x c a (M.Strided n) r e (rw (k, h, s, p, q))
 
   pub indexed-is : (n sew : ℕ) (o : Group) → a .mode ≡ M.Indexed n → sew ≡ sewOf (c .vtype) → Steps 0 (sew / 8)
-      → g ≡ groupAt (c .vtype) sew (a .vd) → o ≡ groupAt (c .vtype) (a .eew) n
+      → g ≡ groupsAt (c .vtype) sew (a .vd) (a .nf) → o ≡ groupAt (c .vtype) (a .eew) n
       → r ≡ movingOf a true g (R.Element o) t (c .vl) → r ≡ transferringOf b x c a
   unfolding byMode
   indexed-is n sew o e q s h i k = in-mode b x c a (M.Indexed n) r e (rw (k, h, i, s, p, q))
 
-  pub mask-is : a .mode ≡ M.MaskBytes → Steps 1 1 → g ≡ record { reg = a .vd; eew = 8; emul8 = 8 }
+  pub mask-is : a .mode ≡ M.MaskBytes → Steps 1 1 → g ≡ record { reg = a .vd; eew = 8; emul8 = 8; nf = 0 }
       → r ≡ movingOf a true g (R.Constant 0) t ((c .vl + 7) / 8) → r ≡ transferringOf b x c a
   unfolding byMode
   mask-is e s h k = in-mode b x c a M.MaskBytes r e (rw (k, h, s, p))
 
-  pub whole-is : (n : ℕ) → a .mode ≡ M.Whole n → Steps (a .eew / 8) (a .eew / 8) → g ≡ record { reg = a .vd; eew = a .eew; emul8 = 8 * n }
+  pub whole-is : (n : ℕ) → a .mode ≡ M.Whole n → Steps (a .eew / 8) (a .eew / 8)
+      → g ≡ record { reg = a .vd; eew = a .eew; emul8 = 8 * n; nf = 0 }
       → r ≡ movingOf a false g (R.Constant 0) t (n * (8 * b .vlenb) / a .eew) → r ≡ transferringOf b x c a
   unfolding byMode
   whole-is n e s h k = in-mode b x c a (M.Whole n) r e (rw (k, h, s, p))

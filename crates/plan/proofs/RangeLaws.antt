@@ -88,7 +88,7 @@ computing-range x c a f =
 moving-range : (a : Access) (typed : Bool) (g : Group) (offset : Read) (t : Transfer) (end : ℕ) → g .reg < 32 → ReadInRange offset
     → InRange (movingOf a typed g offset t end)
 unfolding movingOf
-moving-range a typed g offset t end h k = record { dest = h; vs2 = k; vs1 = tt; vd = if-range (a .store) (R.Element g) h; v0 = tt }
+moving-range a typed g offset t end h k = record { dest = h; vs2 = k; vs1 = tt; vd = if-range (t .store) (R.Element g) h; v0 = tt }
 
 mode-range : (b : Board) (x : List ℕ) (c : Control) (a : Access) (m : Mode) → a .vd < 32 → ModeFits m → InRange (byMode b x c a m)
 unfolding byMode

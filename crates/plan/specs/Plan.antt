@@ -1,5 +1,5 @@
 -- What a decoded word means at a board, scalars and a control record, worked out once before the first element: its plan.
-use Prim.Native.Nat.{ℕ, _+_, _*_, _/_, _%_, _^_}
+use Prim.Native.Nat.{ℕ, suc, _+_, _*_, _/_, _%_, _^_}
 use mathlib.Core.Bool.{Bool, true, false, cond}
 use mathlib.Core.List.{List}
 use lib.ListN.{getD}
@@ -40,9 +40,12 @@ scalarOf x r = cond (eqb r 0) 0 (getD x r 0)
 
 -- ---- operands (section 6.2), at the vtype v
 
--- a group of elements of EEW bits: EMUL = EEW / SEW * LMUL
+-- a group of elements of EEW bits: EMUL = EEW / SEW * LMUL; and one for each field of a segment, nf after the first
+abbrev pub groupsAt : ℕ → ℕ → ℕ → ℕ → Group
+groupsAt v eew reg nf = record { reg = reg; eew = eew; emul8 = emul8Of (sewOf v) (lmul8Of v) eew; nf = nf }
+
 abbrev pub groupAt : ℕ → ℕ → ℕ → Group
-groupAt v eew reg = record { reg = reg; eew = eew; emul8 = emul8Of (sewOf v) (lmul8Of v) eew }
+groupAt v eew reg = groupsAt v eew reg 0
 
 -- the registers of an operand, by its size: none, a mask register, or a group
 unfoldable pub readAt : ℕ → Size → ℕ → Read
@@ -103,41 +106,43 @@ computingOf x c a = shapedOf x c a (shapeOf (a .op))
 
 -- ---- loads and stores (section 8)
 
--- element i of a group is moved to or from the address base + i * stride + its offset (machine/specs/Effect, `elementAddress`)
+-- element i of a group, and of each of its fields, is moved to or from the address base + i * stride + its offset and on (machine/specs/Effect,
+-- `elementAddress`)
 unfoldable pub movingOf : Access → Bool → Group → Read → Transfer → ℕ → Elementwise
 movingOf a typed group offset t end =
     record {
       dest = group;
       vs2 = offset;
       vs1 = R.Constant 0;
-      vd = cond (a .store) (R.Element group) (R.Constant 0);
+      vd = cond (t .store) (R.Element group) (R.Constant 0);
       v0 = R.Constant 0;
       masked = a .masked;
       typed = typed;
       end = end;
-      action = cond (a .store) (A.Store t) (A.Load t);
+      action = A.Transfer t;
     }
 
 -- what the modes have in common: the base x[rs1], and a group at the vtype
 module _ (b : Board) (x : List ℕ) (c : Control) (a : Access) where
   abbrev pub steppingBy : ℕ → ℕ → Transfer
-  steppingBy stride bytes = record { base = scalarOf x (a .rs1); stride = stride; bytes = bytes }
+  steppingBy stride bytes = record { store = a .store; base = scalarOf x (a .rs1); stride = stride; bytes = bytes }
 
   abbrev pub movedAt : ℕ → Group
-  movedAt eew = groupAt (c .vtype) eew (a .vd)
+  movedAt eew = groupsAt (c .vtype) eew (a .vd) (a .nf)
 
-  -- Strides are registers of 64 bits taken unsigned: addresses go modulo 2^64, so that it comes to the same as the signed stride.
-  -- Indexed accesses move elements of SEW bits; mask accesses move vl/8 bytes, rounded up, of one register; whole registers have an end of
+  -- Unit-stride segments are "packed contiguous" (section 8.8.1): NFIELDS * EEW/8 bytes apart. Strides are registers of 64 bits taken
+  -- unsigned: addresses go modulo 2^64, so that it comes to the same as the signed stride. Indexed accesses move elements of SEW bits; mask accesses move vl/8 bytes, rounded up, of one register; whole registers have an end of
   -- their own, the registers' bits over EEW, whatever vtype is
   unfoldable pub byMode : Mode → Elementwise
-  byMode UnitStride = movingOf a true (movedAt (a .eew)) (R.Constant 0) (steppingBy (a .eew / 8) (a .eew / 8)) (c .vl)
+  byMode UnitStride =
+      movingOf a true (movedAt (a .eew)) (R.Constant 0) (steppingBy (suc (a .nf) * (a .eew / 8)) (a .eew / 8)) (c .vl)
   byMode (Strided r) = movingOf a true (movedAt (a .eew)) (R.Constant 0) (steppingBy (scalarOf x r) (a .eew / 8)) (c .vl)
   byMode (Indexed r) =
       movingOf a true (movedAt (sewOf (c .vtype))) (R.Element (groupAt (c .vtype) (a .eew) r)) (steppingBy 0 (sewOf (c .vtype) / 8)) (c .vl)
   byMode MaskBytes =
-      movingOf a true (record { reg = a .vd; eew = 8; emul8 = 8 }) (R.Constant 0) (steppingBy 1 1) ((c .vl + 7) / 8)
+      movingOf a true (record { reg = a .vd; eew = 8; emul8 = 8; nf = 0 }) (R.Constant 0) (steppingBy 1 1) ((c .vl + 7) / 8)
   byMode (Whole n) =
-      movingOf a false (record { reg = a .vd; eew = a .eew; emul8 = 8 * n }) (R.Constant 0) (steppingBy (a .eew / 8) (a .eew / 8))
+      movingOf a false (record { reg = a .vd; eew = a .eew; emul8 = 8 * n; nf = 0 }) (R.Constant 0) (steppingBy (a .eew / 8) (a .eew / 8))
       (n * (8 * b .vlenb) / a .eew)
 
 abbrev pub transferringOf : Board → List ℕ → Control → Access → Elementwise

@@ -8,8 +8,7 @@ ghost use Rattle.control.specs.Board.{Valid};
 ghost use Rattle.control.specs.Vtype.{sewOf};
 ghost use Rattle.decode.specs.Fields.{SourceFits, ArithmeticFits, AccessFits, Fits};
 ghost use Rattle.plan.specs.declared.Read.the-variants.{Constant};
-ghost use Rattle.plan.specs.declared.Action.the-variants.{Load, Store};
-ghost use Rattle.plan.specs.Plan.{scalarOf, groupAt, readAt, groupOf, secondOf, v0Read, v0Masks};
+ghost use Rattle.plan.specs.Plan.{scalarOf, groupsAt, readAt, groupOf, secondOf, v0Read, v0Masks};
 ghost use Rattle.plan.specs.Plan.{computingOf, movingOf, transferringOf, planOf};
 ghost use Rattle.plan.specs.Sources.{v0Source, elementSources, oneTurnSources, sourcesOf};
 ghost use Rattle.plan.specs.Range.{InRange, OneTurnFits, PlanFits, Lists};
@@ -43,8 +42,9 @@ pub struct Compute {
     pub vxrm: Vxrm,
 }
 
-// A transfer of elements of so many bytes: element i lies at base + i * stride + the element of vs2.
+// A load or a store of elements of so many bytes: element i lies at base + i * stride + the element of vs2; of a segment, its first field.
 pub struct Transfer {
+    pub store: bool,
     pub base: u64,
     pub stride: u64,
     pub bytes: u64,
@@ -53,8 +53,7 @@ pub struct Transfer {
 // What is done at each element.
 pub enum Action {
     Compute(Compute),
-    Load(Transfer),
-    Store(Transfer),
+    Transfer(Transfer),
 }
 
 // What an instruction of elements does, whatever its word was.
@@ -97,10 +96,10 @@ pub struct Sources {
 
 // ---- operands
 
-// A group of elements of so many bits.
-fn group_at(vtype: u64, eew: u64, reg: usize) -> Group
+// A group of elements of so many bits, and one for each field of a segment.
+fn groups_at(vtype: u64, eew: u64, reg: usize, nf: u32) -> Group
     requires { ⌜ eew ≤ 2048 ⌝ }
-    ensures { λ r. ⌜ r ≡ groupAt vtype eew reg ⌝ }
+    ensures { λ r. ⌜ r ≡ groupsAt vtype eew reg nf ⌝ }
 {
     let sew = Control::sew(vtype) as usize;
     let lmul8 = Control::lmul8(vtype) as usize;
@@ -109,6 +108,7 @@ fn group_at(vtype: u64, eew: u64, reg: usize) -> Group
         reg,
         eew: e,
         emul8: group::emul8(sew, lmul8, e),
+        nf,
     }
 }
 
@@ -117,7 +117,7 @@ fn read_at(vtype: u64, size: Size, reg: usize) -> Read
     ensures { λ r. ⌜ r ≡ readAt vtype size reg ⌝ }
 {
     let sew = Control::sew(vtype);
-    let group = group_at(vtype, operation::eew(size, sew), reg);
+    let group = groups_at(vtype, operation::eew(size, sew), reg, 0);
     match size {
         Size::Absent => Read::Constant(0),
         Size::Bit => Read::Bit(reg),
@@ -251,16 +251,6 @@ fn computing(x: &[u64], control: Control, a: Arithmetic) -> Elementwise
 
 // ---- memory
 
-// A store or a load.
-fn action_of(store: bool, transfer: Transfer) -> Action
-    ensures { λ r. ⌜ r ≡ cond store (Store transfer) (Load transfer) ⌝ }
-{
-    if store {
-        return Action::Store(transfer);
-    }
-    Action::Load(transfer)
-}
-
 // A load or a store of a group.
 fn moving(
     a: Access,
@@ -272,8 +262,7 @@ fn moving(
 ) -> Elementwise
     ensures { λ r. ⌜ r ≡ movingOf a typed group offset transfer end ⌝ }
 {
-    let vd = read_if(a.store, Read::Element(group));
-    let action = action_of(a.store, transfer);
+    let vd = read_if(transfer.store, Read::Element(group));
     Elementwise {
         dest: group,
         vs2: offset,
@@ -283,15 +272,16 @@ fn moving(
         masked: a.masked,
         typed,
         end,
-        action,
+        action: Action::Transfer(transfer),
     }
 }
 
 // Elements of so many bytes, a stride apart.
-fn transfer_by(base: u64, stride: u64, bytes: u64) -> Transfer
-    ensures { λ r. ⌜ r ≡ record { base = base; stride = stride; bytes = bytes } ⌝ }
+fn transfer_by(store: bool, base: u64, stride: u64, bytes: u64) -> Transfer
+    ensures { λ r. ⌜ r ≡ record { store = store; base = base; stride = stride; bytes = bytes } ⌝ }
 {
     Transfer {
+        store,
         base,
         stride,
         bytes,
@@ -299,10 +289,15 @@ fn transfer_by(base: u64, stride: u64, bytes: u64) -> Transfer
 }
 
 // A group that does not go by vtype.
-fn fixed_group(reg: usize, eew: usize, emul8: usize) -> Group
-    ensures { λ r. ⌜ r ≡ record { reg = reg; eew = eew; emul8 = emul8 } ⌝ }
+fn fixed_group(reg: usize, eew: usize, emul8: u32) -> Group
+    ensures { λ r. ⌜ r ≡ record { reg = reg; eew = eew; emul8 = emul8; nf = 0 } ⌝ }
 {
-    Group { reg, eew, emul8 }
+    Group {
+        reg,
+        eew,
+        emul8,
+        nf: 0,
+    }
 }
 
 // A load or a store, by its addressing mode.
@@ -317,33 +312,30 @@ fn transferring(board: Board, x: &[u64], control: Control, a: Access) -> Element
     let eew = a.eew;
     let bytes = eew / 8;
     let plain = Read::Constant(0);
-    let unit = transfer_by(base, bytes, bytes);
     match mode {
-        Mode::UnitStride => moving(a, true, group_at(vtype, eew, a.vd), plain, unit, vl),
+        Mode::UnitStride => {
+            let t = transfer_by(a.store, base, (a.nf as u64 + 1) * bytes, bytes);
+            moving(a, true, groups_at(vtype, eew, a.vd, a.nf), plain, t, vl)
+        }
         Mode::Strided(r) => {
-            let t = transfer_by(base, scalar(x, r), bytes);
-            moving(a, true, group_at(vtype, eew, a.vd), plain, t, vl)
+            let t = transfer_by(a.store, base, scalar(x, r), bytes);
+            moving(a, true, groups_at(vtype, eew, a.vd, a.nf), plain, t, vl)
         }
         Mode::Indexed(r) => {
             let sew = Control::sew(vtype);
-            let offset = Read::Element(group_at(vtype, eew, r));
-            let t = transfer_by(base, 0, sew / 8);
-            moving(a, true, group_at(vtype, sew, a.vd), offset, t, vl)
+            let offset = Read::Element(groups_at(vtype, eew, r, 0));
+            let t = transfer_by(a.store, base, 0, sew / 8);
+            moving(a, true, groups_at(vtype, sew, a.vd, a.nf), offset, t, vl)
         }
         Mode::MaskBytes => {
-            let t = transfer_by(base, 1, 1);
+            let t = transfer_by(a.store, base, 1, 1);
             moving(a, true, fixed_group(a.vd, 8, 8), plain, t, (vl + 7) / 8)
         }
         Mode::Whole(n) => {
+            let t = transfer_by(a.store, base, bytes, bytes);
             let end = (n as u64) * (8 * board.vlenb) / eew;
-            moving(
-                a,
-                false,
-                fixed_group(a.vd, eew as usize, 8 * n),
-                plain,
-                unit,
-                end,
-            )
+            let group = fixed_group(a.vd, eew as usize, (8 * n) as u32);
+            moving(a, false, group, plain, t, end)
         }
     }
 }

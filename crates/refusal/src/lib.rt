@@ -1,5 +1,6 @@
 // Refusals 32 to 36, in their order.
 ghost use mathlib.Core.Path.{_≡_};
+ghost use Prim.Native.Nat.{max};
 ghost use lib.ListN.{length};
 ghost use Rattle.control.specs.Board.{Valid, base};
 ghost use Rattle.refusal.specs.Refusal.{rightsFit, refusalOf};
@@ -8,18 +9,21 @@ use answer::Verdict;
 use control::Board;
 use control::Control;
 
-// Whether no right is above 2.
+fn greater(a: u8, b: u8) -> u8
+    ensures { λ r. ⌜ r ≡ max a b ⌝ }
+{
+    if a < b { b } else { a }
+}
+
+// Whether no right is above 2: the greatest is looked for in a loop with no other way out, which is compiled to vectors.
 fn rights_fit(rights: &[u8]) -> bool
     ensures { λ r. ⌜ r ≡ rightsFit (now (rights .entry)) ⌝ }
 {
-    let mut i = 0;
-    while i < rights.len() {
-        if 2 < rights[i] {
-            return false;
-        }
-        i += 1;
+    let mut worst: u8 = 0;
+    for i in 0..rights.len() {
+        worst = greater(worst, rights[i]);
     }
-    true
+    worst <= 2
 }
 
 // What a state handed in comes to on a board, by the lengths of its parts, its rights and its control record.

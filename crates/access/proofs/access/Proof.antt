@@ -1,6 +1,6 @@
 use borrow.Author.Needs.{needs}
 use Rattle.layout.proofs.WidthLaws.{size-pos}
-use Rattle.access.proofs.AccessLaws.{last-fits, not-aligned, two-pages, past-memory, no-right, granted}
+use Rattle.access.proofs.AccessLaws.{is-aligned, last-fits, not-aligned, two-pages, past-memory, no-right, granted}
 use Rattle.access.proofs.access.Statement.{statement}
 use Rattle.access.proofs.access.Tie as tie
 
@@ -8,20 +8,20 @@ pub access-spec : {M : Type 1} → statement M
 access-spec =
     tie.close
     (tie.spec
-    (λ c. search size-pos)
+    (λ c κs. search needs)
     (λ c κs. search needs)
     (λ c κs. search needs)
     (λ c. search not-aligned)
     (λ c. search size-pos)
-    (λ c. search last-fits)
+    (λ c. search (last-fits, is-aligned))
     (λ c κs. search needs)
-    (λ c. search two-pages)
+    (λ c. search (two-pages, is-aligned))
     (λ c κs. search needs)
     (λ c κs. search needs)
-    (λ c. search past-memory)
+    (λ c. search (past-memory, is-aligned))
     (λ c. search needs)
     (λ c κs. search needs)
     (λ c κs. search needs)
     (λ c κs. search needs)
-    (λ c. search no-right)
-    (λ c. search granted))
+    (λ c. search (no-right, is-aligned))
+    (λ c. search (granted, is-aligned)))

@@ -1,5 +1,5 @@
 use borrow.Author.Needs.{needs}
-use Rattle.execute.proofs.StepLaws.{computed}
+use Rattle.execute.proofs.StepLaws.{first-inside, computed}
 use Rattle.execute.proofs.compute.Statement.{statement}
 use Rattle.execute.proofs.compute.Tie as tie
 
@@ -12,6 +12,6 @@ compute-spec =
     (λ c κs. search needs)
     (λ c κs. search needs)
     (λ c κs. search needs)
-    (λ c κs. search needs)
+    (λ c κs. search first-inside)
     (λ c. search needs)
-    (λ c m. search computed))
+    (λ c memory x d. search computed))

@@ -1,12 +1,18 @@
 -- `placed` meets its contract. Assumes nothing.
-use mathlib.Core.Bool.{and-assoc}
 use borrow.Author.Needs.{needs}
-use Rattle.group.specs.Group.{placedOf}
+use Rattle.group.proofs.GroupLaws.{times-fits, placed-is}
 use Rattle.group.proofs.placed.Statement.{statement}
 use Rattle.group.proofs.placed.Tie as tie
 
 pub placed-spec : {M : Type 1} → statement M
-unfolding placedOf
 placed-spec =
     tie.close
-    (tie.spec (λ c κs. search needs) (λ c. search needs) (λ c. simp (c .before .registers .ensures, and-assoc)))
+    (tie.spec
+    (λ c. search needs)
+    (λ c. search needs)
+    (λ c. search needs)
+    (λ c. search times-fits)
+    (λ c κs. search needs)
+    (λ c. search needs)
+    (λ c κs. search needs)
+    (λ c. search placed-is))

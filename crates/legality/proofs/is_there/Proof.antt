@@ -10,7 +10,5 @@ is-there-spec =
     (λ c. search needs)
     (λ c κs. search needs)
     (λ c. search needs)
-    (λ c. search needs)
     (λ c. search there-is)
-    (λ c. search needs)
     (λ c. search needs))

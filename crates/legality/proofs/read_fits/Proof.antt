@@ -32,6 +32,6 @@ pub read-fits-spec : {M : Type 1} → statement M
 read-fits-spec =
     tie.close
     (tie.spec
-    (λ c. search needs) (λ c. search needs) (λ c κs. search needs) (λ c κs. search element-range) (λ c. search needs)
+    (λ c. search needs) (λ c. search needs) (λ c κs. search element-range) (λ c κs. search element-range) (λ c. search needs)
     (λ c κs. search needs) (λ c κs. search bit-range)
     (λ c. search constant-fits) (λ c. search element-fits) (λ c. search bit-fits))

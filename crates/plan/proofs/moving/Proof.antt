@@ -5,5 +5,4 @@ use Rattle.plan.proofs.moving.Tie as tie
 
 pub moving-spec : {M : Type 1} → statement M
 unfolding movingOf
-moving-spec =
-    tie.close (tie.spec (λ c κs. search needs) (λ c κs. search needs) (λ c. rw (c .before .read-if .ensures, c .action-of .ensures)))
+moving-spec = tie.close (tie.spec (λ c κs. search needs) (λ c. rw (c .read-if .ensures)))

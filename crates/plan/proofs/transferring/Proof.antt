@@ -1,6 +1,6 @@
 use borrow.Author.Needs.{needs}
 use Rattle.plan.proofs.OperandLaws.{sew-small}
-use Rattle.plan.proofs.AccessLaws.{access-some, access-most, stride-fits, whole-emul, whole-bits}
+use Rattle.plan.proofs.AccessLaws.{access-some, access-most, segment-fits, stride-fits, whole-emul, whole-emul32, whole-bits}
 use Rattle.plan.proofs.AccessLaws.{unit-is, strided-is, indexed-is, mask-is, whole-is}
 use Rattle.plan.proofs.transferring.Statement.{statement}
 use Rattle.plan.proofs.transferring.Tie as tie
@@ -12,8 +12,11 @@ transferring-spec =
     tie.close
     (tie.spec
     (λ c κs. search needs)
-    (λ c κs. search needs)
     (λ c. search needs)
+    (λ c. search needs)
+    (λ c. search needs)
+    (λ c. search segment-fits)
+    (λ c κs. search needs)
     (λ c κs. search group-eew)
     (λ c κs. search needs)
     (λ c. search needs)
@@ -33,10 +36,12 @@ transferring-spec =
     (λ c. search needs)
     (λ c κs. search needs)
     (λ c. search needs)
+    (λ c κs. search needs)
     (λ c. search needs)
     (λ c. search whole-bits)
     (λ c. search access-some)
     (λ c. search whole-emul)
+    (λ c. search whole-emul32)
     (λ c κs. search needs)
     (λ c κs. search needs)
     (λ c. search unit-is)
