@@ -1,16 +1,17 @@
 -- The access test by its outcomes; the loop over the fields of a segment.
-use mathlib.Core.Path.{_≡_, sym, ap, _∙_}
+use mathlib.Core.Path.{_≡_, refl, sym, ap, _∙_}
 use mathlib.Core.Bool.{Bool, true, false, not, _&&_, cond}
 use mathlib.Core.List.{List}
-use Prim.Native.Nat.{ℕ, suc, _+_, _-_, _*_, _/_, _%_, _^_, _≤_, _<_}
+use Prim.Native.Nat.{ℕ, zero, suc, _+_, _-_, _*_, _/_, _%_, _^_, _≤_, _<_}
 use native.Mathlib.Numerals.{add-one}
+use native.Mathlib.Nat.{mod-eq-of-lt}
 use native.Mathlib.Omega.{arith}
 use lib.ListN.{getD}
 use lib.Bits.{bitAnd, and-mask}
 use lib.Dec.{T, leb, eqb}
 use mir.Syntax.{w64}
 use mir.Val.{Fits}
-use borrow.Author.Tests.{eq-eqb, eqb-true, ne-eqb, le-leb, lt-leb, not-false}
+use borrow.Author.Tests.{eq-eqb, eqb-true, ne-eqb, le-leb, lt-leb, leb-true, not-false}
 use Rattle.layout.specs.Layout.{byteSize}
 use Rattle.layout.proofs.WidthLaws.{size-elim, size-pos}
 use Rattle.answer.specs.declared.Answer.{Answer}
@@ -18,7 +19,7 @@ use Rattle.answer.specs.declared.Answer.the-variants.{TwoPages}
 use Rattle.access.specs.declared.Fault.{Fault}
 use Rattle.access.specs.declared.AccessCheck.{AccessCheck}
 use Rattle.access.specs.declared.AccessCheck.the-variants.{Granted, Faulted}
-use Rattle.access.specs.Access.{faultAt, needed, misaligned, denied, accessOf, fieldAddress, orNext, fieldsAccess}
+use Rattle.access.specs.Access.{faultAt, pageOf, needed, misaligned, denied, accessOf, fieldAddress, orNext, fieldsAccess}
 
 -- the address is a multiple of the size
 pub is-aligned : (a n : ℕ) (t : Bool) → t ≡ eqb (a % n) 0 → not t ≡ false → a % n ≡ 0
@@ -121,3 +122,55 @@ module _ (rights : List ℕ) (memory : ℕ) (store : Bool) (a n nf : ℕ) where
     where
       none : suc nf - k ≡ 0
       none = omega arith
+
+-- ---- what is granted lies inside memory
+
+never : {A : Type 0} (f : Fault) → Faulted f ≡ Granted → A
+never f h = absurd (let z : _≡_ {A = ℕ} 0 1 = cc in omega arith)
+
+granted-inside : (rights : List ℕ) (memory : ℕ) (store : Bool) (a n : ℕ) → accessOf rights memory store a n ≡ Granted → a + n ≤ memory
+unfolding accessOf
+granted-inside rights memory store a n h =
+    go (not (eqb (a % n) 0)) (not (eqb (pageOf a) (pageOf (a + n - 1)))) (leb (a + n) memory) refl h
+  where
+    go : (odd pages inside : Bool) → leb (a + n) memory ≡ inside
+        → cond odd (faultAt (misaligned store) a) (cond pages (faultAt TwoPages a)
+        (cond (inside && leb (needed store) (getD rights (pageOf a) 0)) Granted (faultAt (denied store) a))) ≡ Granted
+        → a + n ≤ memory
+    go true pages inside e h = never _ h
+    go false true inside e h = never _ h
+    go false false false e h = never _ h
+    go false false true e h = leb-true (a + n) memory e
+
+granted-first : (v w : AccessCheck) → orNext v w ≡ Granted → v ≡ Granted
+granted-first Granted w h = refl
+granted-first (Faulted f) w h = h
+
+granted-next : (v w : AccessCheck) → orNext v w ≡ Granted → w ≡ Granted
+granted-next Granted w h = h
+granted-next (Faulted f) w h = never f h
+
+module _ (rights : List ℕ) (memory : ℕ) (store : Bool) (a n : ℕ) (m : memory ≤ 65536) where
+  field-here : (k : ℕ) (next : AccessCheck) → a + k * n < 2 ^ 64
+      → orNext (accessOf rights memory store (fieldAddress a n k) n) next ≡ Granted → a + k * n + n ≤ memory
+  field-here k next l h =
+      let here : fieldAddress a n k + n ≤ memory =
+      granted-inside rights memory store (fieldAddress a n k) n (granted-first _ next h) in
+      let plain : fieldAddress a n k ≡ a + k * n = mod-eq-of-lt l in
+      omega (arith, here, plain)
+
+  -- no field's address wraps where all are granted
+  fields-inside : (k others : ℕ) → a + k * n < 2 ^ 64 → fieldsAccess rights memory store a n k (suc others) ≡ Granted
+      → a + (k + suc others) * n ≤ memory
+  unfolding fieldsAccess
+  fields-inside k zero l h = omega (arith, field-here k _ l h)
+  fields-inside k (suc others) l h =
+      omega (
+        arith,
+        fields-inside (suc k) others (omega (arith, field-here k _ l h))
+            (granted-next (accessOf rights memory store (fieldAddress a n k) n) _ h),
+      )
+
+  pub segment-inside : (nf : ℕ) (v : AccessCheck) → Fits w64 a → v ≡ fieldsAccess rights memory store a n 0 (suc nf) → v ≡ Granted
+      → a + suc nf * n ≤ memory
+  segment-inside nf v f p q = omega (arith, fields-inside 0 nf (omega (arith, f .fits)) (sym p ∙ q))

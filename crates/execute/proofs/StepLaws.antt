@@ -1,17 +1,15 @@
 -- Operands by where they come from, and an element by what it comes to: masked off, faulted, moved field by field, or computed.
 use mathlib.Core.Path.{_≡_, refl, sym, ap, subst, _∙_}
-use mathlib.Core.Bool.{Bool, true, false, not, _&&_, cond}
+use mathlib.Core.Bool.{Bool, true, false, not, cond}
 use mathlib.Core.List.{List, [], _∷_}
-use Prim.Native.Nat.{ℕ, zero, suc, _+_, _-_, _*_, _%_, _^_, _≤_, _<_}
+use Prim.Native.Nat.{ℕ, suc, _+_, _-_, _*_, _^_, _≤_, _<_}
 use native.Mathlib.Numerals.{add-one}
 use native.Mathlib.Omega.{arith}
 use native.Mathlib.Nat.{mod-eq-of-lt, mul-le-mul-right}
-use lib.ListN.{length, getD}
-use lib.Dec.{T, leb, eqb}
+use lib.ListN.{length}
 use mir.Syntax.{w64}
 use mir.Val.{Fits}
-use borrow.Author.Tests.{leb-true, not-true, not-false}
-use Rattle.answer.specs.declared.Answer.the-variants.{TwoPages}
+use borrow.Author.Tests.{not-true, not-false}
 use Rattle.fixed.specs.declared.Element.{Element}
 use Rattle.alu.specs.Element.{elementOf}
 use Rattle.control.specs.declared.Board.{Board}
@@ -24,7 +22,7 @@ use Rattle.layout.proofs.ElementLaws.{length-withElement}
 use Rattle.access.specs.declared.Fault.{Fault}
 use Rattle.access.specs.declared.AccessCheck.{AccessCheck}
 use Rattle.access.specs.declared.AccessCheck.the-variants.{Granted, Faulted}
-use Rattle.access.specs.Access.{faultAt, pageOf, needed, misaligned, denied, accessOf, fieldAddress, orNext, fieldsAccess}
+use Rattle.access.specs.Access.{fieldAddress, fieldsAccess}
 use Rattle.plan.specs.declared.Read.{Read}
 use Rattle.plan.specs.declared.Action.{Action}
 use Rattle.plan.specs.declared.Compute.{Compute}
@@ -32,8 +30,8 @@ use Rattle.plan.specs.declared.Transfer.{Transfer}
 use Rattle.plan.specs.declared.Elementwise.{Elementwise}
 use Rattle.turn_theory.specs.Turn.{Effect, write}
 use Rattle.machine.specs.State.{Core}
-use Rattle.machine.specs.Effect.{Write, toRegisters, saturating, putOf, putAll, valueOf, activeOf, elementAddress, ifGranted}
-use Rattle.machine.specs.Effect.{eachField, fieldWrite, computing, transferring, actingOf, effectOf}
+use Rattle.machine.specs.Effect.{Write, toRegisters, saturating, putOf, putAll, valueOf, activeOf, elementAddress}
+use Rattle.machine.specs.Effect.{eachField, fieldWrite, transferring, actingOf, effectOf}
 use Rattle.execute.specs.Step.{ReadInside, FieldsInside, coreAt, Did}
 
 -- ---- operands
@@ -43,58 +41,6 @@ read-inside size vlenb i read v e h = rw e at h
 
 pub value-of : (vlenb i r : ℕ) (file : List ℕ) (read v : Read) → read ≡ v → r ≡ valueOf vlenb file v i → r ≡ valueOf vlenb file read i
 value-of vlenb i r file read v e p = rw e p
-
--- ---- accesses that are granted lie inside memory
-
-never : {A : Type 0} (f : Fault) → Faulted f ≡ Granted → A
-never f h = absurd (let z : _≡_ {A = ℕ} 0 1 = cc in omega arith)
-
-granted-inside : (rights : List ℕ) (memory : ℕ) (store : Bool) (a n : ℕ) → accessOf rights memory store a n ≡ Granted → a + n ≤ memory
-unfolding accessOf
-granted-inside rights memory store a n h =
-    go (not (eqb (a % n) 0)) (not (eqb (pageOf a) (pageOf (a + n - 1)))) (leb (a + n) memory) refl h
-  where
-    go : (odd pages inside : Bool) → leb (a + n) memory ≡ inside
-        → cond odd (faultAt (misaligned store) a) (cond pages (faultAt TwoPages a)
-        (cond (inside && leb (needed store) (getD rights (pageOf a) 0)) Granted (faultAt (denied store) a))) ≡ Granted
-        → a + n ≤ memory
-    go true pages inside e h = never _ h
-    go false true inside e h = never _ h
-    go false false false e h = never _ h
-    go false false true e h = leb-true (a + n) memory e
-
-granted-first : (v w : AccessCheck) → orNext v w ≡ Granted → v ≡ Granted
-granted-first Granted w h = refl
-granted-first (Faulted f) w h = h
-
-granted-next : (v w : AccessCheck) → orNext v w ≡ Granted → w ≡ Granted
-granted-next Granted w h = h
-granted-next (Faulted f) w h = never f h
-
-module _ (rights : List ℕ) (memory : ℕ) (store : Bool) (a n : ℕ) (m : memory ≤ 65536) where
-  field-here : (k : ℕ) (next : AccessCheck) → a + k * n < 2 ^ 64
-      → orNext (accessOf rights memory store (fieldAddress a n k) n) next ≡ Granted → a + k * n + n ≤ memory
-  field-here k next l h =
-      let here : fieldAddress a n k + n ≤ memory =
-      granted-inside rights memory store (fieldAddress a n k) n (granted-first _ next h) in
-      let plain : fieldAddress a n k ≡ a + k * n = mod-eq-of-lt l in
-      omega (arith, here, plain)
-
-  -- no field's address wraps where all are granted
-  fields-inside : (k others : ℕ) → a + k * n < 2 ^ 64 → fieldsAccess rights memory store a n k (suc others) ≡ Granted
-      → a + (k + suc others) * n ≤ memory
-  unfolding fieldsAccess
-  fields-inside k zero l h = omega (arith, field-here k _ l h)
-  fields-inside k (suc others) l h =
-      omega (
-        arith,
-        fields-inside (suc k) others (omega (arith, field-here k _ l h))
-            (granted-next (accessOf rights memory store (fieldAddress a n k) n) _ h),
-      )
-
-  pub segment-inside : (nf : ℕ) (v : AccessCheck) → Fits w64 a → v ≡ fieldsAccess rights memory store a n 0 (suc nf) → v ≡ Granted
-      → a + suc nf * n ≤ memory
-  segment-inside nf v f p q = omega (arith, fields-inside 0 nf (omega (arith, f .fits)) (sym p ∙ q))
 
 -- ---- the fields of an element, one after the other
 

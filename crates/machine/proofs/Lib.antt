@@ -5,3 +5,4 @@ pub mod Lawful
 pub mod Demands
 pub mod Theorems
 pub mod TwoEews
+pub mod FieldsApart

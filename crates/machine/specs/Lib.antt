@@ -5,3 +5,4 @@ pub mod Machine
 pub mod Call
 pub mod Demands
 pub mod TwoEews
+pub mod FieldsApart

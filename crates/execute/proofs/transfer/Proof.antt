@@ -1,5 +1,6 @@
 use borrow.Author.Needs.{needs}
-use Rattle.execute.proofs.StepLaws.{segment-inside, faulted, moved}
+use Rattle.access.proofs.AccessLaws.{segment-inside}
+use Rattle.execute.proofs.StepLaws.{faulted, moved}
 use Rattle.execute.proofs.transfer.Statement.{statement}
 use Rattle.execute.proofs.transfer.Tie as tie
 
