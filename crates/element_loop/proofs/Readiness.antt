@@ -2,7 +2,7 @@
 use Prim.Native.Nat.{ℕ, _+_, _*_, _/_, _^_, _≤_, _<_}
 use mathlib.Core.Path.{_≡_, refl, sym, ap, subst}
 use mathlib.Core.Logic.{⊎-elim}
-use mathlib.Core.Bool.{Bool, true, false, not, _||_, cond}
+use mathlib.Core.Bool.{Bool, true, not, _||_, cond}
 use mathlib.Core.List.{List}
 use native.Mathlib.Omega.{arith}
 use native.Mathlib.Nat.{mul-le-mul-right, div-mul-le-self}
@@ -27,7 +27,7 @@ use Rattle.decode.specs.declared.Mode.the-variants as M
 use Rattle.decode.specs.declared.Source.{Source}
 use Rattle.decode.specs.declared.Source.the-variants.{Vector, Scalar, Immediate}
 use Rattle.decode.specs.Fields.{ArithmeticFits, AccessFits, ModeFits, SizeFits, Fits}
-use Rattle.layout.specs.Layout.{elementWidth, byteSize, Inside}
+use Rattle.layout.specs.Layout.{elementWidth, Inside}
 use Rattle.layout.proofs.WidthLaws.{bytes-size}
 use Rattle.layout.proofs.BytesLaws.{Bytes}
 use Rattle.layout.proofs.ElementLaws.{element-lt}

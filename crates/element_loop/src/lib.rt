@@ -115,10 +115,10 @@ fn computed(
 {
     let vstart = control.vstart;
     let remaining = less(e.end, vstart);
-    let most = control::smaller(allowance, remaining);
+    let count = control::smaller(allowance, remaining);
     let mut vxsat = control.vxsat;
     let mut k: u64 = 0;
-    while k < most {
+    while k < count {
         let i = (vstart + k) as usize;
         vxsat = saturated(
             vxsat,

@@ -45,18 +45,18 @@ pub record SegmentCases : Type 0 where
   -- of one field it may, at equal EEW: vluxei8.v v8, (x10), v8
   pub one-field : answersAt 0x00 (0x06850407 ∷ []) ≡ replicate 1 Finished
   -- what is stored is a source in every field: vsuxseg2ei8.v v8, (x10), v9; vsuxseg2ei16.v, vsuxseg3ei16.v v8, (x10), v10
-  pub stored : answersAt 0x00 (0x26950427 ∷ 0x26A55427 ∷ 0x46A55427 ∷ []) ≡ (Finished ∷ Finished ∷ Illegal ∷ [])
+  pub stored-fields : answersAt 0x00 (0x26950427 ∷ 0x26A55427 ∷ 0x46A55427 ∷ []) ≡ (Finished ∷ Finished ∷ Illegal ∷ [])
   -- v0 as the mask: vlseg2e8.v v0, (x10), v0.t; vsseg2e8.v v0, (x10), v0.t; vlseg2e8.v v8, (x10), v0.t
-  pub masked : answersAt 0x00 (0x20050007 ∷ 0x20050027 ∷ 0x20050407 ∷ []) ≡ (Illegal ∷ Illegal ∷ Finished ∷ [])
+  pub masked-fields : answersAt 0x00 (0x20050007 ∷ 0x20050027 ∷ 0x20050407 ∷ []) ≡ (Illegal ∷ Illegal ∷ Finished ∷ [])
   -- nf 1 with lumop 16, fault-only-first, and 11, a mask; with 8 it is vl2re8.v v8, which has elements at vl 0 too, and no memory here
   pub other-lumops : answersAt 0x00 (0x23050407 ∷ 0x22B50407 ∷ 0x22850407 ∷ []) ≡ (Illegal ∷ Illegal ∷ LoadAccess ∷ [])
   -- red, green and blue of two pixels
-  pub loads : colours (loadedOf (2 ^ 32 - 1) (10 ∷ 20 ∷ 30 ∷ 11 ∷ 21 ∷ 31 ∷ [])) ≡ ((10 ∷ 11 ∷ []) ∷ (20 ∷ 21 ∷ []) ∷ (30 ∷ 31 ∷ []) ∷ [])
+  pub two-pixels : colours (loadedOf (2 ^ 32 - 1) (10 ∷ 20 ∷ 30 ∷ 11 ∷ 21 ∷ 31 ∷ [])) ≡ ((10 ∷ 11 ∷ []) ∷ (20 ∷ 21 ∷ []) ∷ (30 ∷ 31 ∷ []) ∷ [])
   -- the allowance counts pixels: one of them, and then a pause
   pub one-pixel : loadedOf 1 (10 ∷ 20 ∷ 30 ∷ 11 ∷ 21 ∷ 31 ∷ []) .answer ≡ Paused
   pub one-passed : loadedOf 1 (10 ∷ 20 ∷ 30 ∷ 11 ∷ 21 ∷ 31 ∷ []) .passed ≡ 1
   pub one-loaded : colours (loadedOf 1 (10 ∷ 20 ∷ 30 ∷ 11 ∷ 21 ∷ 31 ∷ [])) ≡ ((10 ∷ 0 ∷ []) ∷ (20 ∷ 0 ∷ []) ∷ (30 ∷ 0 ∷ []) ∷ [])
   -- memory ends before the second pixel's blue: nothing of that pixel is moved, and the address is the blue's
-  pub faults : loadedOf (2 ^ 32 - 1) (10 ∷ 20 ∷ 30 ∷ 11 ∷ 21 ∷ []) .answer ≡ LoadAccess
-  pub faults-at : loadedOf (2 ^ 32 - 1) (10 ∷ 20 ∷ 30 ∷ 11 ∷ 21 ∷ []) .place .address ≡ 5
-  pub before-fault : colours (loadedOf (2 ^ 32 - 1) (10 ∷ 20 ∷ 30 ∷ 11 ∷ 21 ∷ [])) ≡ ((10 ∷ 0 ∷ []) ∷ (20 ∷ 0 ∷ []) ∷ (30 ∷ 0 ∷ []) ∷ [])
+  pub blue-faults : loadedOf (2 ^ 32 - 1) (10 ∷ 20 ∷ 30 ∷ 11 ∷ 21 ∷ []) .answer ≡ LoadAccess
+  pub blue-address : loadedOf (2 ^ 32 - 1) (10 ∷ 20 ∷ 30 ∷ 11 ∷ 21 ∷ []) .place .address ≡ 5
+  pub before-blue : colours (loadedOf (2 ^ 32 - 1) (10 ∷ 20 ∷ 30 ∷ 11 ∷ 21 ∷ [])) ≡ ((10 ∷ 0 ∷ []) ∷ (20 ∷ 0 ∷ []) ∷ (30 ∷ 0 ∷ []) ∷ [])

@@ -39,7 +39,7 @@ placedOf elen g =
 abbrev pub apartOf : Group → Group → Bool
 apartOf d s = leb (d .reg + spanOf d) (s .reg) || leb (s .reg + spanOf s) (d .reg)
 
--- the destination is the source's lowest-numbered part, or the source the destination's highest-numbered part
+-- the destination is the source's lowest-numbered part, or the source the destination's highest-numbered part, where both have one field
 abbrev pub lowestOf : Group → Group → Bool
 lowestOf d s = eqb (d .reg) (s .reg)
 

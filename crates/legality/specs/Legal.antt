@@ -1,4 +1,4 @@
--- Whether a plan is legal (sections 6.2, 6.3 and 16; document 01, 'Words, groups and elements'; document 02, A5).
+-- Whether a plan is legal (sections 6.2, 6.3, 8.8 and 16; document 01, 'Words, groups and elements'; document 02, A1 and A5).
 use Prim.Native.Nat.{ℕ, _*_, _/_}
 use mathlib.Core.Bool.{Bool, true, false, not, _&&_, _||_, cond}
 use mathlib.Core.List.{List, [], _∷_}

@@ -1,7 +1,7 @@
 -- What one element does, by the state before (document 01, 'The definition': "The state before alone decides what each active one writes
 -- and whether it faults or saturates").
 use Prim.Native.Nat.{ℕ, zero, suc, _+_, _*_, _%_, _^_}
-use mathlib.Core.Bool.{Bool, false, true, not, _||_, cond}
+use mathlib.Core.Bool.{Bool, not, _||_, cond}
 use mathlib.Core.List.{List, [], _∷_}
 use lib.ListN.{length}
 use lib.Dec.{eqb}

@@ -131,8 +131,9 @@ module _ (b : Board) (x : List ℕ) (c : Control) (a : Access) where
   movedAt eew = groupsAt (c .vtype) eew (a .vd) (a .nf)
 
   -- Unit-stride segments are "packed contiguous" (section 8.8.1): NFIELDS * EEW/8 bytes apart. Strides are registers of 64 bits taken
-  -- unsigned: addresses go modulo 2^64, so that it comes to the same as the signed stride. Indexed accesses move elements of SEW bits; mask accesses move vl/8 bytes, rounded up, of one register; whole registers have an end of
-  -- their own, the registers' bits over EEW, whatever vtype is
+  -- unsigned: addresses go modulo 2^64, so that it comes to the same as the signed stride. Indexed accesses move elements of SEW bits; mask
+  -- accesses move vl/8 bytes, rounded up, of one register; whole registers have an end of their own, the registers' bits over EEW, whatever
+  -- vtype is
   unfoldable pub byMode : Mode → Elementwise
   byMode UnitStride =
       movingOf a true (movedAt (a .eew)) (R.Constant 0) (steppingBy (suc (a .nf) * (a .eew / 8)) (a .eew / 8)) (c .vl)

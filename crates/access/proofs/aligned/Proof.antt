@@ -1,4 +1,3 @@
-use borrow.Author.Needs.{needs}
 use Rattle.layout.proofs.WidthLaws.{size-pos}
 use Rattle.access.proofs.AccessLaws.{size-mask}
 use Rattle.access.proofs.aligned.Statement.{statement}

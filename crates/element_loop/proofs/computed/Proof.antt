@@ -7,11 +7,11 @@ use Rattle.element_loop.proofs.computed.Statement.{statement}
 use Rattle.element_loop.proofs.computed.Tie as tie
 
 abbrev Inv-loop : tie.InvT-loop
-Inv-loop board registers₀ scalars memory rights control allowance e operation vstart remaining most vxsat₀ k₀ registers vxsat k =
+Inv-loop board registers₀ scalars memory rights control allowance e operation vstart remaining count vxsat₀ k₀ registers vxsat k =
     Going board e registers₀ scalars memory rights control allowance k registers memory vxsat
 
 abbrev μ-loop : tie.MeasureT-loop
-μ-loop board registers₀ scalars memory rights control allowance e operation vstart remaining most vxsat₀ k₀ registers vxsat k = most - k
+μ-loop board registers₀ scalars memory rights control allowance e operation vstart remaining count vxsat₀ k₀ registers vxsat k = count - k
 
 pub computed-spec : {M : Type 1} → statement M
 computed-spec =
@@ -26,8 +26,7 @@ computed-spec =
     (λ c κs.
     let tested = c .before in
     let begun = tested .before .before .before in
-    let start = begun .before .before .before .before .before in
-    (
+    let start = begun .before .before .before .before .before in (
       next-ready _ _ _ _ _ _ _ _ (start .pre .0) _ _ _ _ (tested .before .loop .inv) _ _ _
           (begun .less .ensures) (tested .before .before .smaller .ensures) (tested .loop-test .taken),
       (

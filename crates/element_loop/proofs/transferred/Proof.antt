@@ -26,8 +26,7 @@ transferred-spec =
     (λ c κs.
     let tested = c .before .before in
     let begun = tested .before .before .before in
-    let start = begun .before .before .before .before .before in
-    (
+    let start = begun .before .before .before .before .before in (
       next-ready _ _ _ _ _ _ _ _ (start .pre .0) _ _ _ _ (tested .before .loop .inv) _ _ _
           (begun .less .ensures) (tested .before .before .smaller .ensures) (tested .loop-test .taken),
       (
