@@ -46,8 +46,11 @@ enum {
 /*
  * One turn of the instruction `word`, of at most `allowance` elements from vstart up; UINT32_MAX runs it uncut. To go on after a pause or a
  * fault, call it again with the same word. Lengths count elements: bytes of registers, memory and rights, numbers of scalars.
+ * Of a word that moves segments of 2 to 8 fields, an element is a segment: the allowance, passed, vstart and the mask count segments, and
+ * nothing is moved of a segment that has a faulting field.
  *   passed    gets the number of elements passed, masked-off ones included
- *   address   gets the address of the first byte of the faulting element (answers 4 to 7 and 37), otherwise 0
+ *   address   gets the address of the first byte of the faulting element (answers 4 to 7 and 37), or of a segment's first faulting field;
+ *             otherwise 0
  * Returns the answer. On 2 and 32 to 36 registers, scalars, memory and control are as before, and passed and address get 0.
  */
 uint64_t prashunde_turn(uint32_t word, uint32_t allowance,

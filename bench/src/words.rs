@@ -62,7 +62,7 @@ const fn one(name: &'static str, word: u32, answer: u64, registers: usize) -> Ro
     }
 }
 
-pub const ROWS: [Row; 26] = [
+pub const ROWS: [Row; 28] = [
     row("vadd.vv e8 m8", op(0x00, 1, 16, 24, OPIVV, 8), 8, 8, 128),
     row("vadd.vv e8 m8, masked", op(0x00, 0, 16, 24, OPIVV, 8), 8, 8, 128),
     row("vadd.vv e32 m8", op(0x00, 1, 16, 24, OPIVV, 8), 32, 8, 32),
@@ -83,6 +83,8 @@ pub const ROWS: [Row; 26] = [
     row("vlse8.v m8, stride 3", access(0x07, 0, 2, 11, 0, 8), 8, 8, 128),
     row("vluxei8.v e8 m8", access(0x07, 0, 1, 16, 0, 8), 8, 8, 128),
     row("vl8re8.v", access(0x07, 7, 0, 8, 0, 8), 8, 8, 128),
+    row("vlseg3e8.v m2", access(0x07, 2, 0, 0, 0, 8), 8, 2, 32),
+    row("vsseg3e8.v m2", access(0x27, 2, 0, 0, 0, 8), 8, 2, 32),
     row("vmand.mm, vl 128", op(0x19, 1, 2, 3, OPMVV, 1), 8, 8, 128),
     one("vcpop.m, vl 128", op(0x10, 1, 2, 16, OPMVV, 12), 0, 512),
     one("vmsbf.m, vl 128", op(0x14, 1, 2, 1, OPMVV, 1), 0, 512),

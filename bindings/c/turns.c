@@ -1,4 +1,5 @@
-/* A load in three turns: a closed page stops it, then an allowance of 3 pauses it. Then the other calls, and a sheet. bindings/rust/examples/turns.rs prints the same. */
+/* A load in three turns: a closed page stops it, then an allowance of 3 pauses it; and a load of segments in two. Then the other calls, and
+ * a sheet. bindings/rust/examples/turns.rs prints the same. */
 #include "prashunde.h"
 #include <inttypes.h>
 #include <stdio.h>
@@ -62,8 +63,13 @@ int main(void)
     rights[1] = 1;
     turn("page 1 open", 0x02058407, 3);
     turn("the rest", 0x02058407, UINT32_MAX);
+    rights[1] = 0;
+    turn("vlseg3e8.v v12, (x11)", 0x42058607, UINT32_MAX); /* the third field of segment 2 lies on page 1 */
+    rights[1] = 1;
+    turn("its other segments", 0x42058607, UINT32_MAX);
     turn("vadd.vv v8, v0, v10, v0.t", 0x00050457, UINT32_MAX); /* v0 is data and mask: read at two EEWs */
     view(8, 2);
+    view(14, 2);
     view(9, 2);
     csr(0x00f, 15);
     csr(0xc22, 1);

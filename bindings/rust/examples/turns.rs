@@ -1,4 +1,5 @@
-//! A load in three turns: a closed page stops it, then an allowance of 3 pauses it. Then the other calls, and a sheet. bindings/c/turns.c prints the same.
+//! A load in three turns: a closed page stops it, then an allowance of 3 pauses it; and a load of segments in two. Then the other calls, and
+//! a sheet. bindings/c/turns.c prints the same.
 use prashunde::{csr_read, csr_write, sheet, sheet_into, turn, view, Answer, Control};
 
 struct Machine {
@@ -78,8 +79,13 @@ fn main() {
     m.rights[1] = 1;
     m.turn("page 1 open", 0x02058407, 3);
     m.turn("the rest", 0x02058407, u32::MAX);
+    m.rights[1] = 0;
+    m.turn("vlseg3e8.v v12, (x11)", 0x42058607, u32::MAX); // the third field of segment 2 lies on page 1
+    m.rights[1] = 1;
+    m.turn("its other segments", 0x42058607, u32::MAX);
     m.turn("vadd.vv v8, v0, v10, v0.t", 0x00050457, u32::MAX); // v0 is data and mask: read at two EEWs
     m.view(8, 2);
+    m.view(14, 2);
     m.view(9, 2);
     m.csr(0x00f, 15);
     m.csr(0xc22, 1);

@@ -119,7 +119,7 @@ impl Control {
     }
 }
 
-/// What a turn gives beside what it leaves in the lent parts.
+/// What a turn gives beside what it leaves in the lent parts. The address is that of the faulting element, or of a segment's first faulting field.
 #[derive(Clone, Copy, Debug, PartialEq, Eq)]
 pub struct Turned {
     pub answer: Answer,
@@ -127,7 +127,7 @@ pub struct Turned {
     pub address: u64,
 }
 
-/// One turn of the instruction `word`, of at most `allowance` elements.
+/// One turn of the instruction `word`, of at most `allowance` elements; of a word that moves segments, of at most so many segments.
 pub fn turn(
     word: u32,
     allowance: u32,

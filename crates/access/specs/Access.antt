@@ -1,5 +1,5 @@
--- The access test of one element (document 01, 'One turn and its answer'): alignment, then 37, then end of memory and right; and of all fields
--- of a segment (document 02, A1).
+-- The access test of one element (document 01, 'One turn and its answer'): alignment, then 37, then end of memory and right; and of the
+-- fields of a segment (document 02, A1).
 use Prim.Native.Nat.{ℕ, zero, suc, _+_, _-_, _*_, _/_, _%_, _^_}
 use mathlib.Core.Bool.{Bool, not, _&&_, cond}
 use mathlib.Core.List.{List}

@@ -39,7 +39,8 @@ pub record SegmentCases : Type 0 where
   pub two-fours : answersAt 0x02 (0x22050407 ∷ 0x42050407 ∷ []) ≡ (Finished ∷ Illegal ∷ [])
   pub eight-twos : answersAt 0x01 (0xE2050407 ∷ []) ≡ replicate 1 Illegal
   -- no register past 31: vlseg8e8.v v24 and v25, vlseg2e8.v v30 and v31
-  pub last-registers : answersAt 0x00 (0xE2050C07 ∷ 0xE2050C87 ∷ 0x22050F07 ∷ 0x22050F87 ∷ []) ≡ (Finished ∷ Illegal ∷ Finished ∷ Illegal ∷ [])
+  pub last-registers : answersAt 0x00 (0xE2050C07 ∷ 0xE2050C87 ∷ 0x22050F07 ∷ 0x22050F87 ∷ [])
+      ≡ (Finished ∷ Illegal ∷ Finished ∷ Illegal ∷ [])
   -- an indexed load overlaps its indices in no field: vluxseg2ei8.v v8, (x10), v8; v9; v10; and vloxseg2ei8.v v8, (x10), v9
   pub indices : answersAt 0x00 (0x26850407 ∷ 0x26950407 ∷ 0x26A50407 ∷ 0x2E950407 ∷ []) ≡ (Illegal ∷ Illegal ∷ Finished ∷ Illegal ∷ [])
   -- of one field it may, at equal EEW: vluxei8.v v8, (x10), v8
@@ -51,7 +52,8 @@ pub record SegmentCases : Type 0 where
   -- nf 1 with lumop 16, fault-only-first, and 11, a mask; with 8 it is vl2re8.v v8, which has elements at vl 0 too, and no memory here
   pub other-lumops : answersAt 0x00 (0x23050407 ∷ 0x22B50407 ∷ 0x22850407 ∷ []) ≡ (Illegal ∷ Illegal ∷ LoadAccess ∷ [])
   -- red, green and blue of two pixels
-  pub two-pixels : colours (loadedOf (2 ^ 32 - 1) (10 ∷ 20 ∷ 30 ∷ 11 ∷ 21 ∷ 31 ∷ [])) ≡ ((10 ∷ 11 ∷ []) ∷ (20 ∷ 21 ∷ []) ∷ (30 ∷ 31 ∷ []) ∷ [])
+  pub two-pixels : colours (loadedOf (2 ^ 32 - 1) (10 ∷ 20 ∷ 30 ∷ 11 ∷ 21 ∷ 31 ∷ []))
+      ≡ ((10 ∷ 11 ∷ []) ∷ (20 ∷ 21 ∷ []) ∷ (30 ∷ 31 ∷ []) ∷ [])
   -- the allowance counts pixels: one of them, and then a pause
   pub one-pixel : loadedOf 1 (10 ∷ 20 ∷ 30 ∷ 11 ∷ 21 ∷ 31 ∷ []) .answer ≡ Paused
   pub one-passed : loadedOf 1 (10 ∷ 20 ∷ 30 ∷ 11 ∷ 21 ∷ 31 ∷ []) .passed ≡ 1

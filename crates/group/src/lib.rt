@@ -5,7 +5,7 @@ ghost use Prim.Native.Nat.{_+_, _≤_, _<_};
 ghost use Rattle.group.specs.Group.{emul8Of, maskGroup, registersOf, spanOf, placedOf};
 ghost use Rattle.group.specs.Group.{highestOf, mayOverlapOf, mayShareOf, sparesV0};
 
-// A group: its first register, EEW, and 8 * EMUL; and, of a segment access, one less than the number of fields, each of which has such a group.
+// A group: its first register, EEW, and 8 * EMUL. Of a segment access, that of the first field: nf others of the kind follow it.
 pub struct Group {
     pub reg: usize,
     pub eew: usize,

@@ -332,7 +332,8 @@ module _ (b : Board) (p : Plan) where
 
   following-point : (n : ℕ) (s : State) (r : List ℕ) → pointOf b p (following n s r) ≡ ranOf b p n s .after
   following-point n s r = point-left (s .rights) r (ranOf b p n s .after)
-      (turn-keeps (J b p) (λ c. c .control .vstart ≡ 0) (all-keep (b .vlenb) _ (put-vstart b)) (result-vstart b p) (turnWith b p (s .rights) n)
+      (turn-keeps (J b p) (λ c. c .control .vstart ≡ 0) (all-keep (b .vlenb) _ (put-vstart b)) (result-vstart b p)
+      (turnWith b p (s .rights) n)
       (pointOf b p s) refl)
 
   following-plan : (word n : ℕ) (s : State) (r : List ℕ) → planAt b word s ≡ p → (ranOf b p n s .ending ≡ finished → ⊥)
@@ -340,7 +341,8 @@ module _ (b : Board) (p : Plan) where
   following-plan word n s r e u =
       let q : Point (J b p) = ranOf b p n s .after in
       plan-besides b (q .state .scalars) (q .state .control) (q .vstart) (q .state .control .vxsat) (decodeOf word)
-      ∙ unfinished-keeps (J b p) (λ c. planOf b (c .scalars) (c .control) (decodeOf word) ≡ p) (all-keep (b .vlenb) _ (put-plan b (decodeOf word) p))
+      ∙ unfinished-keeps (J b p) (λ c. planOf b (c .scalars) (c .control) (decodeOf word) ≡ p)
+      (all-keep (b .vlenb) _ (put-plan b (decodeOf word) p))
       (turnWith b p (s .rights) n) (pointOf b p s) u
       (plan-besides b (s .scalars) (s .control) 0 (s .control .vxsat) (decodeOf word) ∙ e)
 

@@ -301,7 +301,9 @@ module _ (b : Board) (x : List ℕ) (c : Control) (a : Access) (w : Valid b) (t 
       record {
         vs2 = same 0;
         vs1 = same 0;
-        vd = either (Kept (b .vlenb) end g) (z .store) (R.Element g) (R.Constant 0) (λ p. absurd (subst T (sym (rw p at r)) tt)) (λ p. same 0);
+        vd =
+            either (Kept (b .vlenb) end g) (z .store) (R.Element g) (R.Constant 0)
+            (λ p. absurd (subst T (sym (rw p at r)) tt)) (λ p. same 0);
         v0 = same 0;
         mask = λ q. bit-kept (b .vlenb) end g k m (mask-spared (a .masked) (R.Constant 0) g (legal-facts (b .elen) e h r .v0) q);
       }

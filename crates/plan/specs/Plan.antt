@@ -106,8 +106,8 @@ computingOf x c a = shapedOf x c a (shapeOf (a .op))
 
 -- ---- loads and stores (section 8)
 
--- element i of a group, and of each of its fields, is moved to or from the address base + i * stride + its offset and on (machine/specs/Effect,
--- `elementAddress`)
+-- element i of a group, of each of its fields, is moved to or from the address base + i * stride + its offset, and on (`elementAddress`,
+-- machine/specs/Effect)
 unfoldable pub movingOf : Access → Bool → Group → Read → Transfer → ℕ → Elementwise
 movingOf a typed group offset t end =
     record {

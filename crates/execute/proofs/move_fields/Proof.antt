@@ -1,7 +1,8 @@
 use Prim.Native.Nat.{suc, _-_}
 use native.Mathlib.Omega.{arith}
 use borrow.Author.Needs.{needs}
-use Rattle.execute.proofs.StepLaws.{Moving, moving-none, moving-more, moving-inside, moving-room, register-fits, field-fits, moving-done}
+use Rattle.execute.proofs.StepLaws.{Moving, moving-none, moving-more, moving-done}
+use Rattle.execute.proofs.StepLaws.{moving-inside, moving-room, register-fits, field-fits}
 use Rattle.execute.proofs.move_fields.Statement.{statement}
 use Rattle.execute.proofs.move_fields.Tie as tie
 
