@@ -75,7 +75,7 @@ size-mask a n t =
 
 -- ---- fields
 
-pub first-field : (a n : ℕ) → Fits w64 a → a ≡ fieldAddress a n 0
+first-field : (a n : ℕ) → Fits w64 a → a ≡ fieldAddress a n 0
 first-field a n f = omega (arith, f .fits)
 
 next-field : (a n k : ℕ) → (fieldAddress a n k + n) % 2 ^ 64 ≡ fieldAddress a n (k + 1)
@@ -142,11 +142,11 @@ granted-inside rights memory store a n h =
     go false false false e h = never _ h
     go false false true e h = leb-true (a + n) memory e
 
-granted-first : (v w : AccessCheck) → orNext v w ≡ Granted → v ≡ Granted
+pub granted-first : (v w : AccessCheck) → orNext v w ≡ Granted → v ≡ Granted
 granted-first Granted w h = refl
 granted-first (Faulted f) w h = h
 
-granted-next : (v w : AccessCheck) → orNext v w ≡ Granted → w ≡ Granted
+pub granted-next : (v w : AccessCheck) → orNext v w ≡ Granted → w ≡ Granted
 granted-next Granted w h = h
 granted-next (Faulted f) w h = never f h
 

@@ -51,6 +51,7 @@ use Rattle.machine.proofs.Geometry.{placed-extent}
 use Rattle.machine.proofs.PlanFacts.{Operand, constant, bit, element, OfV0, unused, used, Typed, typed-extent, legal-at, computing-typed}
 use Rattle.machine.proofs.PlanFacts.{mode-end, unit-typed, strided-typed, indexed-typed, eew-width}
 use Rattle.execute.specs.Step.{FieldsInside, Ready, ReadInside, ActionFits}
+use Rattle.execute.proofs.StepLaws.{first-inside}
 
 -- ---- where elements lie
 
@@ -62,16 +63,11 @@ inside vlenb end g k t m u l =
     let here : (k + 1) * g .eew ≤ end * g .eew = mul-le-mul-right (g .eew) (omega arith) in
     record { width = t; within = omega (arith, here, m, mul-le-mul-right (8 * vlenb) u) }
 
--- of each field, and of the first alone
-fields-inside : (vlenb end : ℕ) (g : Group) (k : ℕ) → T (elementWidth (g .eew)) → end * g .eew ≤ registersOf g * (8 * vlenb)
+-- of each field
+each-inside : (vlenb end : ℕ) (g : Group) (k : ℕ) → T (elementWidth (g .eew)) → end * g .eew ≤ registersOf g * (8 * vlenb)
     → g .reg + spanOf g ≤ 32
     → k < end → FieldsInside (32 * vlenb) vlenb g k
-fields-inside vlenb end g k t m u l f h = inside vlenb end (fieldGroup g f) k t m (omega (arith, fields-before g f h)) l
-
-first-inside : (vlenb end : ℕ) (g : Group) (k : ℕ) → T (elementWidth (g .eew)) → end * g .eew ≤ registersOf g * (8 * vlenb)
-    → g .reg + spanOf g ≤ 32
-    → k < end → Inside (32 * vlenb) vlenb (g .reg) (g .eew) k
-first-inside vlenb end g k t m u l = inside vlenb end g k t m (omega (arith, fields-before g 0 (omega arith))) l
+each-inside vlenb end g k t m u l f h = inside vlenb end (fieldGroup g f) k t m (omega (arith, fields-before g f h)) l
 
 bit-inside : (vlenb reg k : ℕ) → reg < 32 → k < 8 * vlenb → Inside (32 * vlenb) vlenb reg 1 k
 bit-inside vlenb reg k u l = inside vlenb (8 * vlenb) (maskGroup reg) k tt (omega arith) (omega arith) l
@@ -90,7 +86,7 @@ read-inside b v e writes _ k w y l (bit reg) t u = bit-inside (b .vlenb) reg k u
 read-inside b v e writes _ k w y l (element eew reg nf p z) t u =
     let g : Group = groupsAt v eew reg nf in
     let x = placed-extent b v w (y .supported) eew p reg nf (both-left (placedOf (b .elen) g) (not writes || mayOverlapOf (e .dest) g) t) in
-    first-inside (b .vlenb) (vlmaxOf b v) g k (x .width) (x .within) (x .ends u) l
+    first-inside (32 * b .vlenb) (b .vlenb) g k (each-inside (b .vlenb) (vlmaxOf b v) g k (x .width) (x .within) (x .ends u) l)
 
 typed-ready : (b : Board) (v : ℕ) (e : Elementwise) (k : ℕ) → Valid b → Typed b v e → operandsFit (b .elen) e ≡ true → InRange e
     → k < e .end → Ready (32 * b .vlenb) (b .vlenb) e k
@@ -100,7 +96,7 @@ typed-ready b v e k w y h u l =
     let most : k < vlmaxOf b v = omega (arith, y .end) in
     let bits : k < 8 * b .vlenb = omega (arith, vlmax-le b v) in
     record {
-      dest = fields-inside (b .vlenb) (vlmaxOf b v) (e .dest) k (x .width) (x .within) (x .ends (u .dest)) most;
+      dest = each-inside (b .vlenb) (vlmaxOf b v) (e .dest) k (x .width) (x .within) (x .ends (u .dest)) most;
       ends = x .ends (u .dest);
       vs2 = read-inside b v e (writesRegisters (e .action)) (e .vs2) k w y most (y .vs2) (f .vs2) (u .vs2);
       vs1 = read-inside b v e (writesRegisters (e .action)) (e .vs1) k w y most (y .vs1) (f .vs1) (u .vs1);
@@ -121,12 +117,12 @@ alone-ready : (b : Board) (a : Access) (typed : Bool) (g : Group) (z : Transfer)
     → end * g .eew ≤ registersOf g * (8 * b .vlenb) → g .reg + spanOf g ≤ 32 → k < end → k < 8 * b .vlenb
     → Ready (32 * b .vlenb) (b .vlenb) (movingOf a typed g (R.Constant 0) z end) k
 unfolding movingOf ReadInside
-alone-ready b a typed g z end k t m u l o = record {
-  dest = fields-inside (b .vlenb) end g k t m u l;
+alone-ready b a typed g z end k t m u l o = let lies = each-inside (b .vlenb) end g k t m u l in record {
+  dest = lies;
   ends = u;
   vs2 = tt;
   vs1 = tt;
-  vd = if-inside _ _ (z .store) g k (first-inside (b .vlenb) end g k t m u l);
+  vd = if-inside _ _ (z .store) g k (first-inside _ _ g k lies);
   v0 = tt;
   mask = bit-inside (b .vlenb) 0 k (lit< tt) o;
 }

@@ -1,11 +1,11 @@
 -- Register groups: what placement and the overlap rule come to, and where aligned groups lie.
 use Prim.Native.Nat.{ℕ, suc, _+_, _-_, _*_, _/_, _%_, _^_, _≤_, _<_, max}
-use mathlib.Core.Path.{_≡_, ap, _∙_}
+use mathlib.Core.Path.{_≡_, ap}
 use mathlib.Core.Logic.{_⊎_, inl, inr, ⊎-elim}
 use mathlib.Core.Bool.{Bool, true, _&&_, _||_, and-assoc, or-assoc}
 use native.Mathlib.Numerals.{add-one}
 use native.Mathlib.Omega.{arith}
-use native.Mathlib.Nat.{div-add-mod', div-le-self, mul-le-mul, mul-le-mul-right, lt-of-mul-lt-mul-right, add-mul-mod-self-right}
+use native.Mathlib.Nat.{div-add-mod', div-le-self, mul-le-mul, mul-le-mul-right, lt-of-mul-lt-mul-right}
 use native.Mathlib.Decide.{decLt}
 use lib.Dec.{ltb, leb, eqb}
 use mir.Syntax.{w32, w64}
@@ -95,10 +95,6 @@ same-or-apart d s e p q = by-order (decLt (d .reg) (s .reg)) (decLt (s .reg) (d 
   by-order (no l) (yes g) = inr (inr (next-multiple (registersOf s) (s .reg) (d .reg) q (rw e at p) g))
   by-order (no l) (no g) = inl (omega arith)
 
--- each field of an aligned group is aligned
-pub field-aligned : (g : Group) (k : ℕ) → g .reg % registersOf g ≡ 0 → fieldGroup g k .reg % registersOf g ≡ 0
-field-aligned g k h = add-mul-mod-self-right (g .reg) k (registersOf g) ∙ h
-
 -- ---- what fits
 
 -- 8 * EMUL and nf are numbers of 32 bits
@@ -114,8 +110,8 @@ span-fits g r h k e = record { fits = rw e (omega (arith, span-most (g .nf) (g .
 pub end-fits : (g : Group) (r : ℕ) → Fits w32 (g .nf) → Fits w32 (g .emul8) → g .reg < 32 → r ≡ spanOf g → Fits w64 (g .reg + r)
 end-fits g r h k l e = record { fits = rw e (omega (arith, span-most (g .nf) (g .emul8) (h .fits) (k .fits))) }
 
-pub times-fits : (g : Group) → Fits w32 (g .nf) → Fits w32 (g .emul8) → Fits w64 ((g .nf + 1) * g .emul8)
-times-fits g h k =
+pub product-fits : (g : Group) → Fits w32 (g .nf) → Fits w32 (g .emul8) → Fits w64 ((g .nf + 1) * g .emul8)
+product-fits g h k =
     let l : g .nf + 1 ≤ 2 ^ 32 = omega (arith, h .fits) in
     let m : g .emul8 ≤ 2 ^ 32 - 1 = omega (arith, k .fits) in
     record { fits = omega (arith, mul-le-mul l m) }

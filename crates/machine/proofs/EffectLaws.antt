@@ -16,7 +16,8 @@ use Rattle.group.specs.Group.{nfields, fieldGroup}
 use Rattle.access.specs.declared.Fault.{Fault}
 use Rattle.access.specs.declared.AccessCheck.{AccessCheck}
 use Rattle.access.specs.declared.AccessCheck.the-variants.{Granted, Faulted}
-use Rattle.access.specs.Access.{faultAt, pageOf, needed, misaligned, denied, accessOf, fieldAddress, orNext, fieldsAccess}
+use Rattle.access.specs.Access.{faultAt, pageOf, needed, misaligned, denied, accessOf, fieldAddress, fieldsAccess}
+use Rattle.access.proofs.AccessLaws.{granted-first, granted-next}
 use Rattle.plan.specs.declared.Read.the-variants as R
 use Rattle.plan.specs.declared.Action.{Action}
 use Rattle.plan.specs.declared.Action.the-variants as A
@@ -70,18 +71,15 @@ access-opened r r′ memory store a n o h =
         let m : needed store ≤ getD r (pageOf a) 0 = leb-true (needed store) (getD r (pageOf a) 0) k in
         rw (le-leb (needed store) (getD r′ (pageOf a) 0) (omega (arith, m, o .at-least (pageOf a))))
 
--- fields that are granted are granted under raised rights, each and together
-or-next : (v w : AccessCheck) → orNext v w ≡ Granted → (v ≡ Granted) × (w ≡ Granted)
-or-next Granted w h = (refl, h)
-or-next (Faulted f) w h = absurd (let z : _≡_ {A = ℕ} 0 1 = cc in omega arith)
-
+-- fields that are granted are granted under raised rights
 fields-opened : (r r′ : List ℕ) (memory : ℕ) (store : Bool) (a n k others : ℕ) → Opened r r′
     → fieldsAccess r memory store a n k others ≡ Granted → fieldsAccess r′ memory store a n k others ≡ Granted
 unfolding fieldsAccess
 fields-opened r r′ memory store a n k zero o h = h
 fields-opened r r′ memory store a n k (suc others) o h =
-    let both = or-next _ _ h in
-    rw (access-opened r r′ memory store (fieldAddress a n k) n o (both .0)) (fields-opened r r′ memory store a n (suc k) others o (both .1))
+    let v : AccessCheck = accessOf r memory store (fieldAddress a n k) n in
+    rw (access-opened r r′ memory store (fieldAddress a n k) n o (granted-first v _ h))
+    (fields-opened r r′ memory store a n (suc k) others o (granted-next v _ h))
 
 -- an access that does not fault does the same under raised rights
 granted-opened : (r r′ : List ℕ) (memory : ℕ) (store : Bool) (a n others : ℕ) (e : Effect Fault (List Write)) → Opened r r′

@@ -13,15 +13,15 @@ use Rattle.access.specs.Access.{fieldAddress, fieldsAccess}
 use Rattle.access.proofs.AccessLaws.{segment-inside}
 use Rattle.machine.specs.FieldsApart.{FieldsApart}
 
-in-registers : (g : Group) (j k : ℕ) → j < k → apartOf (fieldGroup g j) (fieldGroup g k) ≡ true
-in-registers g j k l =
+registers-apart : (g : Group) (j k : ℕ) → j < k → apartOf (fieldGroup g j) (fieldGroup g k) ≡ true
+registers-apart g j k l =
     let below : fieldGroup g j .reg + spanOf (fieldGroup g j) ≤ fieldGroup g k .reg =
     omega (arith, mul-le-mul-right (registersOf g) l) in
     rw (le-leb _ _ below)
 
-in-memory : (rights : List ℕ) (memory : ℕ) (store : Bool) (a n nf j k : ℕ) → memory ≤ 65536 → a < 2 ^ 64
+memory-apart : (rights : List ℕ) (memory : ℕ) (store : Bool) (a n nf j k : ℕ) → memory ≤ 65536 → a < 2 ^ 64
     → fieldsAccess rights memory store a n 0 (suc nf) ≡ Granted → j < k → k ≤ nf → fieldAddress a n j + n ≤ fieldAddress a n k
-in-memory rights memory store a n nf j k m l h u v =
+memory-apart rights memory store a n nf j k m l h u v =
     let all : a + suc nf * n ≤ memory = segment-inside rights memory store a n m nf Granted (record { fits = l }) (sym h) refl in
     let here : a + k * n < 2 ^ 64 = omega (arith, all, mul-le-mul-right n v) in
     let before : a + j * n < 2 ^ 64 = omega (arith, here, mul-le-mul-right n u) in
@@ -30,4 +30,4 @@ in-memory rights memory store a n nf j k m l h u v =
     omega (arith, plain, lower, mul-le-mul-right n u)
 
 pub fields-apart : FieldsApart
-fields-apart = record { in-registers = in-registers; in-memory = in-memory }
+fields-apart = record { registers-apart = registers-apart; memory-apart = memory-apart }

@@ -11,7 +11,7 @@ use Rattle.access.specs.Access.{fieldAddress, fieldsAccess}
 
 pub record FieldsApart : Type 0 where
   -- two fields have no register in common
-  pub in-registers : (g : Group) (j k : ℕ) → j < k → apartOf (fieldGroup g j) (fieldGroup g k) ≡ true
+  pub registers-apart : (g : Group) (j k : ℕ) → j < k → apartOf (fieldGroup g j) (fieldGroup g k) ≡ true
   -- where all fields from address a on are granted, each ends before the next begins
-  pub in-memory : (rights : List ℕ) (memory : ℕ) (store : Bool) (a n nf j k : ℕ) → memory ≤ 65536 → a < 2 ^ 64
+  pub memory-apart : (rights : List ℕ) (memory : ℕ) (store : Bool) (a n nf j k : ℕ) → memory ≤ 65536 → a < 2 ^ 64
       → fieldsAccess rights memory store a n 0 (suc nf) ≡ Granted → j < k → k ≤ nf → fieldAddress a n j + n ≤ fieldAddress a n k

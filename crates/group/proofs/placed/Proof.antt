@@ -1,6 +1,6 @@
 -- `placed` meets its contract. Assumes nothing.
 use borrow.Author.Needs.{needs}
-use Rattle.group.proofs.GroupLaws.{times-fits, placed-is}
+use Rattle.group.proofs.GroupLaws.{product-fits, placed-is}
 use Rattle.group.proofs.placed.Statement.{statement}
 use Rattle.group.proofs.placed.Tie as tie
 
@@ -11,7 +11,7 @@ placed-spec =
     (λ c. search needs)
     (λ c. search needs)
     (λ c. search needs)
-    (λ c. search times-fits)
+    (λ c. search product-fits)
     (λ c κs. search needs)
     (λ c. search needs)
     (λ c κs. search needs)
