@@ -123,24 +123,37 @@ module _ (rights : List ℕ) (memory : ℕ) (store : Bool) (a n nf : ℕ) where
       none : suc nf - k ≡ 0
       none = omega arith
 
--- ---- what is granted lies inside memory
+-- ---- what is granted
 
 never : {A : Type 0} (f : Fault) → Faulted f ≡ Granted → A
 never f h = absurd (let z : _≡_ {A = ℕ} 0 1 = cc in omega arith)
 
-granted-inside : (rights : List ℕ) (memory : ℕ) (store : Bool) (a n : ℕ) → accessOf rights memory store a n ≡ Granted → a + n ≤ memory
+pub record Grantable (rights : List ℕ) (memory : ℕ) (store : Bool) (a n : ℕ) : Type 0 where
+  pub aligned : a % n ≡ 0
+  pub inside : a + n ≤ memory
+  pub right : needed store ≤ getD rights (pageOf a) 0
+
+pub granted-facts : (rights : List ℕ) (memory : ℕ) (store : Bool) (a n : ℕ) → accessOf rights memory store a n ≡ Granted
+    → Grantable rights memory store a n
 unfolding accessOf
-granted-inside rights memory store a n h =
-    go (not (eqb (a % n) 0)) (not (eqb (pageOf a) (pageOf (a + n - 1)))) (leb (a + n) memory) refl h
+granted-facts rights memory store a n h =
+    go (eqb (a % n) 0) (not (eqb (pageOf a) (pageOf (a + n - 1)))) (leb (a + n) memory) (leb (needed store) (getD rights (pageOf a) 0))
+    refl refl refl h
   where
-    go : (odd pages inside : Bool) → leb (a + n) memory ≡ inside
-        → cond odd (faultAt (misaligned store) a) (cond pages (faultAt TwoPages a)
-        (cond (inside && leb (needed store) (getD rights (pageOf a) 0)) Granted (faultAt (denied store) a))) ≡ Granted
-        → a + n ≤ memory
-    go true pages inside e h = never _ h
-    go false true inside e h = never _ h
-    go false false false e h = never _ h
-    go false false true e h = leb-true (a + n) memory e
+    go : (aligned pages inside right : Bool) → eqb (a % n) 0 ≡ aligned → leb (a + n) memory ≡ inside
+        → leb (needed store) (getD rights (pageOf a) 0) ≡ right
+        → cond (not aligned) (faultAt (misaligned store) a) (cond pages (faultAt TwoPages a)
+        (cond (inside && right) Granted (faultAt (denied store) a))) ≡ Granted
+        → Grantable rights memory store a n
+    go false pages inside right p q r h = never _ h
+    go true true inside right p q r h = never _ h
+    go true false false right p q r h = never _ h
+    go true false true false p q r h = never _ h
+    go true false true true p q r h = record {
+      aligned = eqb-true (a % n) 0 p;
+      inside = leb-true (a + n) memory q;
+      right = leb-true (needed store) (getD rights (pageOf a) 0) r;
+    }
 
 pub granted-first : (v w : AccessCheck) → orNext v w ≡ Granted → v ≡ Granted
 granted-first Granted w h = refl
@@ -155,7 +168,7 @@ module _ (rights : List ℕ) (memory : ℕ) (store : Bool) (a n : ℕ) (m : memo
       → orNext (accessOf rights memory store (fieldAddress a n k) n) next ≡ Granted → a + k * n + n ≤ memory
   field-here k next l h =
       let here : fieldAddress a n k + n ≤ memory =
-      granted-inside rights memory store (fieldAddress a n k) n (granted-first _ next h) in
+      granted-facts rights memory store (fieldAddress a n k) n (granted-first _ next h) .inside in
       let plain : fieldAddress a n k ≡ a + k * n = mod-eq-of-lt l in
       omega (arith, here, plain)
 

@@ -1,1 +1,2 @@
 pub mod AccessLaws
+pub mod OnePage

@@ -195,7 +195,7 @@ module _ (I : Semantics) where
   pub record Cases (t : Turn I) (p : Point I) (P : TurnEnd I → Type 0) : Type 0 where
     pub on-rejected : (x : I .Rejection) → I .rejection (t .rights) (p .state) (p .vstart) ≡ some x
         → P (record { ending = rejected x; passed = zero; after = p })
-    pub on-trapped : (x : I .Fault) (k : ℕ) → I .rejection (t .rights) (p .state) (p .vstart) ≡ none → k ≤ remaining I p
+    pub on-trapped : (x : I .Fault) (k : ℕ) → I .rejection (t .rights) (p .state) (p .vstart) ≡ none → k < remaining I p
         → ((j : ℕ) → p .vstart ≤ j → j < p .vstart + k → faults (I .effect (t .rights) (p .state) j) ≡ false)
         → I .effect (t .rights) (p .state) (p .vstart + k) ≡ fault x
         → P (record { ending = trapped x; passed = k; after = record { state = passing I (t .rights) p k; vstart = p .vstart + k } })
@@ -245,7 +245,7 @@ module _ (I : Semantics) where
     on-rejected = λ x e. went-rejected x refl;
     on-trapped = λ x k h l f e. went-cut (record {
       is-legal = h;
-      within = l;
+      within = omega arith;
       no-fault = f;
       unfinished = λ q. (let z : _≡_ {A = ℕ} 0 1 = cc in omega arith);
       left = refl;
