@@ -30,8 +30,8 @@ enum {
     PRASHUNDE_PAUSED = 1,           /* the allowance is used up; vstart is the next element */
     PRASHUNDE_ILLEGAL = 2,          /* a reserved, left out or unsupported word (also one that reads one register at two different EEWs), or no
                                        such CSR; nothing is changed */
-    PRASHUNDE_LOAD_MISALIGNED = 4,  /* 4 to 7 and 37: the elements before the faulting one are done, vstart is that element */
-    PRASHUNDE_LOAD_ACCESS = 5,      /* past memory, or the page may not be read */
+    PRASHUNDE_LOAD_MISALIGNED = 4,  /* 4 to 7: the elements before the faulting one are done, vstart is that element */
+    PRASHUNDE_LOAD_ACCESS = 5,      /* past memory, or the page may not be read; an aligned element lies on one page */
     PRASHUNDE_STORE_MISALIGNED = 6,
     PRASHUNDE_STORE_ACCESS = 7,     /* past memory, or the page may not be written */
     PRASHUNDE_BAD_REGISTERS = 32,   /* 32 to 36, in this order: nothing is changed. registers_len is not 512 */
@@ -39,7 +39,6 @@ enum {
     PRASHUNDE_BAD_MEMORY = 34,      /* memory_len is over 65536 */
     PRASHUNDE_BAD_RIGHTS = 35,      /* rights_len is not 256, or a right is above 2 */
     PRASHUNDE_BAD_CONTROL = 36,     /* control fields that cannot be */
-    PRASHUNDE_TWO_PAGES = 37,       /* an aligned element lies on two pages */
     PRASHUNDE_NO_GROUP = 38         /* no such register group (prashunde_view alone) */
 };
 
@@ -49,7 +48,7 @@ enum {
  * Of a word that moves segments of 2 to 8 fields, an element is a segment: the allowance, passed, vstart and the mask count segments, and
  * nothing is moved of a segment that has a faulting field.
  *   passed    gets the number of elements passed, masked-off ones included
- *   address   gets the address of the first byte of the faulting element (answers 4 to 7 and 37), or of a segment's first faulting field;
+ *   address   gets the address of the first byte of the faulting element (answers 4 to 7), or of a segment's first faulting field;
  *             otherwise 0
  * Returns the answer. On 2 and 32 to 36 registers, scalars, memory and control are as before, and passed and address get 0.
  */

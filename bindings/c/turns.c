@@ -1,5 +1,5 @@
-/* A load in three turns: a closed page stops it, then an allowance of 3 pauses it; and a load of segments in two. Then the other calls, and
- * a sheet. bindings/rust/examples/turns.rs prints the same. */
+/* A load in three turns: a closed page stops it, then an allowance of 3 pauses it; a load of segments in two; and one that is not aligned. Then
+ * the other calls, and a sheet. bindings/rust/examples/turns.rs prints the same. */
 #include "prashunde.h"
 #include <inttypes.h>
 #include <stdio.h>
@@ -56,6 +56,7 @@ int main(void)
     rights[0] = 2;
     scalars[10] = 20;
     scalars[11] = 0xf8;
+    scalars[13] = 0xfe;
     prashunde_reset(control);
     turn("load at reset", 0x02058407, UINT32_MAX);
     turn("vsetvli x12, x10, e8, m2", 0x00157657, 1);
@@ -67,6 +68,7 @@ int main(void)
     turn("vlseg3e8.v v12, (x11)", 0x42058607, UINT32_MAX); /* the third field of segment 2 lies on page 1 */
     rights[1] = 1;
     turn("its other segments", 0x42058607, UINT32_MAX);
+    turn("vle32.v v16, (x13)", 0x0206e807, UINT32_MAX); /* an element across the end of page 0 is not aligned */
     turn("vadd.vv v8, v0, v10, v0.t", 0x00050457, UINT32_MAX); /* v0 is data and mask: read at two EEWs */
     view(8, 2);
     view(14, 2);

@@ -1,5 +1,5 @@
-//! A load in three turns: a closed page stops it, then an allowance of 3 pauses it; and a load of segments in two. Then the other calls, and
-//! a sheet. bindings/c/turns.c prints the same.
+//! A load in three turns: a closed page stops it, then an allowance of 3 pauses it; a load of segments in two; and one that is not aligned. Then
+//! the other calls, and a sheet. bindings/c/turns.c prints the same.
 use prashunde::{csr_read, csr_write, sheet, sheet_into, turn, view, Answer, Control};
 
 struct Machine {
@@ -73,6 +73,7 @@ fn main() {
     m.rights[0] = 2;
     m.scalars[10] = 20;
     m.scalars[11] = 0xf8;
+    m.scalars[13] = 0xfe;
     m.turn("load at reset", 0x02058407, u32::MAX);
     m.turn("vsetvli x12, x10, e8, m2", 0x00157657, 1);
     m.turn("vle8.v v8, (x11)", 0x02058407, u32::MAX);
@@ -83,6 +84,7 @@ fn main() {
     m.turn("vlseg3e8.v v12, (x11)", 0x42058607, u32::MAX); // the third field of segment 2 lies on page 1
     m.rights[1] = 1;
     m.turn("its other segments", 0x42058607, u32::MAX);
+    m.turn("vle32.v v16, (x13)", 0x0206e807, u32::MAX); // an element across the end of page 0 is not aligned
     m.turn("vadd.vv v8, v0, v10, v0.t", 0x00050457, u32::MAX); // v0 is data and mask: read at two EEWs
     m.view(8, 2);
     m.view(14, 2);

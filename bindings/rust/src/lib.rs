@@ -51,14 +51,13 @@ pub enum Answer {
     BadMemory = 34,
     BadRights = 35,
     BadControl = 36,
-    TwoPages = 37,
     NoGroup = 38,
 }
 
 impl Answer {
     fn of(number: u64) -> Answer {
         use Answer::*;
-        const ALL: [Answer; 14] = [
+        const ALL: [Answer; 13] = [
             Finished,
             Paused,
             Illegal,
@@ -71,7 +70,6 @@ impl Answer {
             BadMemory,
             BadRights,
             BadControl,
-            TwoPages,
             NoGroup,
         ];
         // each call is proved to return one of these

@@ -11,11 +11,10 @@ use lib.Bits.{bitAnd, and-mask}
 use lib.Dec.{T, leb, eqb}
 use mir.Syntax.{w64}
 use mir.Val.{Fits}
-use borrow.Author.Tests.{eq-eqb, eqb-true, ne-eqb, le-leb, lt-leb, leb-true, not-false}
+use borrow.Author.Tests.{eq-eqb, eqb-true, le-leb, lt-leb, leb-true, not-false}
 use Rattle.layout.specs.Layout.{byteSize}
 use Rattle.layout.proofs.WidthLaws.{size-elim, size-pos}
 use Rattle.answer.specs.declared.Answer.{Answer}
-use Rattle.answer.specs.declared.Answer.the-variants.{TwoPages}
 use Rattle.access.specs.declared.Fault.{Fault}
 use Rattle.access.specs.declared.AccessCheck.{AccessCheck}
 use Rattle.access.specs.declared.AccessCheck.the-variants.{Granted, Faulted}
@@ -33,39 +32,66 @@ last-fits a n t e f =
           (λ h. omega arith) n t e;
     }
 
--- an aligned element on one page
-abbrev Whole : ℕ → ℕ → Type 0
-Whole a n = T (byteSize n) × ((a % n ≡ 0) × (a / 256 ≡ (a + (n - 1)) / 256))
+-- ---- what is granted is aligned, inside memory and on a page that has the right
+
+never : {A : Type 0} (f : Fault) → Faulted f ≡ Granted → A
+never f h = absurd (let z : _≡_ {A = ℕ} 0 1 = cc in omega arith)
+
+pub record Grantable (rights : List ℕ) (memory : ℕ) (store : Bool) (a n : ℕ) : Type 0 where
+  pub aligned : a % n ≡ 0
+  pub inside : a + n ≤ memory
+  pub right : needed store ≤ getD rights (pageOf a) 0
 
 module _ (rights : List ℕ) (memory : ℕ) (store : Bool) (a n : ℕ) where
+  pub facts-granted : Grantable rights memory store a n → accessOf rights memory store a n ≡ Granted
+  unfolding accessOf
+  facts-granted g =
+      rw (
+        eq-eqb (a % n) 0 (g .aligned),
+        le-leb (a + n) memory (g .inside),
+        le-leb (needed store) (getD rights (pageOf a) 0) (g .right),
+      )
+
+  pub granted-facts : accessOf rights memory store a n ≡ Granted → Grantable rights memory store a n
+  unfolding accessOf
+  granted-facts h =
+      go (eqb (a % n) 0) (leb (a + n) memory) (leb (needed store) (getD rights (pageOf a) 0)) refl refl refl h
+    where
+      go : (aligned inside right : Bool) → eqb (a % n) 0 ≡ aligned → leb (a + n) memory ≡ inside
+          → leb (needed store) (getD rights (pageOf a) 0) ≡ right
+          → cond (not aligned) (faultAt (misaligned store) a) (cond (inside && right) Granted (faultAt (denied store) a)) ≡ Granted
+          → Grantable rights memory store a n
+      go false inside right p q r h = never _ h
+      go true false right p q r h = never _ h
+      go true true false p q r h = never _ h
+      go true true true p q r h = record {
+        aligned = eqb-true (a % n) 0 p;
+        inside = leb-true (a + n) memory q;
+        right = leb-true (needed store) (getD rights (pageOf a) 0) r;
+      }
+
+  -- ---- the test by its outcomes
+
   pub not-aligned : (r : AccessCheck) (x : Answer) (t : Bool) → t ≡ eqb (a % n) 0 → not t ≡ true → x ≡ misaligned store → r ≡ faultAt x a
       → r ≡ accessOf rights memory store a n
   unfolding accessOf
   not-aligned r x t e f p q = rw (← e, f, ← p) q
 
-  pub two-pages : (r : AccessCheck) → T (byteSize n) → a % n ≡ 0 → (a / 256 ≡ (a + (n - 1)) / 256 → ⊥) → r ≡ faultAt TwoPages a
-      → r ≡ accessOf rights memory store a n
-  unfolding accessOf
-  two-pages r t e f q = rw (eq-eqb (a % n) 0 e, ne-eqb (a / 256) ((a + n - 1) / 256) (omega (arith, f, size-pos n t))) q
-
-  -- what is left to test
-  one-page : Whole a n
-      → accessOf rights memory store a n
-      ≡ cond (leb (a + n) memory && leb (needed store) (getD rights (a / 256) 0)) Granted (faultAt (denied store) a)
-  unfolding accessOf
-  one-page (t, (e, f)) = rw (eq-eqb (a % n) 0 e, eq-eqb (a / 256) ((a + n - 1) / 256) (omega (arith, f, size-pos n t)))
-
-  pub past-memory : (r : AccessCheck) (x : Answer) → Whole a n → memory ≤ a + (n - 1) → x ≡ denied store → r ≡ faultAt x a
-      → r ≡ accessOf rights memory store a n
-  past-memory r x w h p q = rw (one-page w, lt-leb (a + n) memory (omega (arith, size-pos n (w .0))), ← p) q
-
-  module _ (k : ℕ) (w : Whole a n) (h : a + (n - 1) < memory) (g : k ≡ needed store) where
-    pub no-right : (r : AccessCheck) (x : Answer) → getD rights (a / 256) 0 < k → x ≡ denied store → r ≡ faultAt x a
+  module _ (e : a % n ≡ 0) where
+    pub past-memory : (r : AccessCheck) (x : Answer) → T (byteSize n) → memory ≤ a + (n - 1) → x ≡ denied store → r ≡ faultAt x a
         → r ≡ accessOf rights memory store a n
-    no-right r x l p q = rw (one-page w, le-leb (a + n) memory (omega arith), ← g, lt-leb k (getD rights (a / 256) 0) l, ← p) q
+    unfolding accessOf
+    past-memory r x t h p q = rw (eq-eqb (a % n) 0 e, lt-leb (a + n) memory (omega (arith, size-pos n t)), ← p) q
 
-    pub granted : k ≤ getD rights (a / 256) 0 → Granted ≡ accessOf rights memory store a n
-    granted l = rw (one-page w, le-leb (a + n) memory (omega arith), ← g, le-leb k (getD rights (a / 256) 0) l)
+    module _ (k : ℕ) (h : a + (n - 1) < memory) (g : k ≡ needed store) where
+      pub no-right : (r : AccessCheck) (x : Answer) → getD rights (a / 256) 0 < k → x ≡ denied store → r ≡ faultAt x a
+          → r ≡ accessOf rights memory store a n
+      unfolding accessOf
+      no-right r x l p q =
+          rw (eq-eqb (a % n) 0 e, le-leb (a + n) memory (omega arith), ← g, lt-leb k (getD rights (a / 256) 0) l, ← p) q
+
+      pub granted : k ≤ getD rights (a / 256) 0 → Granted ≡ accessOf rights memory store a n
+      granted l = sym (facts-granted (record { aligned = e; inside = omega arith; right = omega (arith, g, l) }))
 
 -- the bits below a power of 2
 pub size-mask : (a n : ℕ) → T (byteSize n) → eqb (bitAnd a (n - 1)) 0 ≡ eqb (a % n) 0
@@ -123,37 +149,7 @@ module _ (rights : List ℕ) (memory : ℕ) (store : Bool) (a n nf : ℕ) where
       none : suc nf - k ≡ 0
       none = omega arith
 
--- ---- what is granted
-
-never : {A : Type 0} (f : Fault) → Faulted f ≡ Granted → A
-never f h = absurd (let z : _≡_ {A = ℕ} 0 1 = cc in omega arith)
-
-pub record Grantable (rights : List ℕ) (memory : ℕ) (store : Bool) (a n : ℕ) : Type 0 where
-  pub aligned : a % n ≡ 0
-  pub inside : a + n ≤ memory
-  pub right : needed store ≤ getD rights (pageOf a) 0
-
-pub granted-facts : (rights : List ℕ) (memory : ℕ) (store : Bool) (a n : ℕ) → accessOf rights memory store a n ≡ Granted
-    → Grantable rights memory store a n
-unfolding accessOf
-granted-facts rights memory store a n h =
-    go (eqb (a % n) 0) (not (eqb (pageOf a) (pageOf (a + n - 1)))) (leb (a + n) memory) (leb (needed store) (getD rights (pageOf a) 0))
-    refl refl refl h
-  where
-    go : (aligned pages inside right : Bool) → eqb (a % n) 0 ≡ aligned → leb (a + n) memory ≡ inside
-        → leb (needed store) (getD rights (pageOf a) 0) ≡ right
-        → cond (not aligned) (faultAt (misaligned store) a) (cond pages (faultAt TwoPages a)
-        (cond (inside && right) Granted (faultAt (denied store) a))) ≡ Granted
-        → Grantable rights memory store a n
-    go false pages inside right p q r h = never _ h
-    go true true inside right p q r h = never _ h
-    go true false false right p q r h = never _ h
-    go true false true false p q r h = never _ h
-    go true false true true p q r h = record {
-      aligned = eqb-true (a % n) 0 p;
-      inside = leb-true (a + n) memory q;
-      right = leb-true (needed store) (getD rights (pageOf a) 0) r;
-    }
+-- ---- fields that are granted lie inside memory
 
 pub granted-first : (v w : AccessCheck) → orNext v w ≡ Granted → v ≡ Granted
 granted-first Granted w h = refl

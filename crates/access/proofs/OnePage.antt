@@ -1,6 +1,6 @@
 -- An aligned element lies on one page, and is granted where each of its bytes is permitted.
 use Prim.Native.Nat.{ℕ, _+_, _-_, _%_, _≤_, _<_}
-use mathlib.Core.Path.{_≡_, refl, sym, subst}
+use mathlib.Core.Path.{_≡_, refl, subst}
 use mathlib.Core.Bool.{Bool}
 use mathlib.Core.List.{List}
 use native.Mathlib.Omega.{arith}
@@ -11,7 +11,7 @@ use Rattle.layout.proofs.WidthLaws.{size-elim, size-pos}
 use Rattle.access.specs.declared.AccessCheck.the-variants.{Granted}
 use Rattle.access.specs.Access.{needed, accessOf}
 use Rattle.access.specs.OnePage.{OnFirstPage, Permitted, OnePage}
-use Rattle.access.proofs.AccessLaws.{granted, granted-facts}
+use Rattle.access.proofs.AccessLaws.{facts-granted, granted-facts}
 
 divides : (n : ℕ) → T (byteSize n) → 256 % n ≡ 0
 divides = size-elim (λ k. 256 % k ≡ 0) refl refl refl refl
@@ -24,9 +24,13 @@ module _ (rights : List ℕ) (memory : ℕ) (store : Bool) (a n : ℕ) (t : T (b
   if-permitted : a % n ≡ 0 → ((i : ℕ) → i < n → Permitted rights memory store (a + i)) → accessOf rights memory store a n ≡ Granted
   if-permitted e f =
       let first : 0 < n = size-pos n t in
-      let last : n - 1 < n = omega (arith, first) in
-      sym (granted rights memory store a n (needed store) (t, (e, sym (same-page a n (n - 1) t e last))) (f (n - 1) last .0) refl
-      (subst (λ (p : ℕ). needed store ≤ getD rights p 0) (same-page a n 0 t e first) (f 0 first .1)))
+      let last : a + (n - 1) < memory = f (n - 1) (omega (arith, first)) .0 in
+      facts-granted rights memory store a n
+      (record {
+        aligned = e;
+        inside = omega arith;
+        right = subst (λ (p : ℕ). needed store ≤ getD rights p 0) (same-page a n 0 t e first) (f 0 first .1);
+      })
 
   only-if-permitted : accessOf rights memory store a n ≡ Granted
       → (a % n ≡ 0) × ((i : ℕ) → i < n → Permitted rights memory store (a + i))

@@ -1,17 +1,17 @@
--- The access test of one element (document 01, 'One turn and its answer'): alignment, then 37, then end of memory and right; and of the
--- fields of a segment (document 02, A1).
+-- The access test of one element (document 01, 'One turn and its answer'): alignment, then end of memory and right; and of the fields of
+-- a segment (document 02, A1).
 use Prim.Native.Nat.{ℕ, zero, suc, _+_, _-_, _*_, _/_, _%_, _^_}
 use mathlib.Core.Bool.{Bool, not, _&&_, cond}
 use mathlib.Core.List.{List}
 use lib.ListN.{getD}
 use lib.Dec.{leb, eqb}
 use Rattle.answer.specs.declared.Answer.{Answer}
-use Rattle.answer.specs.declared.Answer.the-variants.{LoadMisaligned, LoadAccess, StoreMisaligned, StoreAccess, TwoPages}
+use Rattle.answer.specs.declared.Answer.the-variants.{LoadMisaligned, LoadAccess, StoreMisaligned, StoreAccess}
 use Rattle.access.specs.declared.FaultPlace.{FaultPlace}
 use Rattle.access.specs.declared.AccessCheck.{AccessCheck}
 use Rattle.access.specs.declared.AccessCheck.the-variants.{Granted, Faulted}
 
--- "a fault address: the first byte of the faulting element, modulo 2^64, for 4 to 7 and 37, else 0"
+-- "a fault address: the first byte of the faulting element, modulo 2^64, for 4 to 7", and 0 beside all other answers
 abbrev pub nowhere : FaultPlace
 nowhere = record { address = 0 }
 
@@ -33,13 +33,13 @@ misaligned store = cond store StoreMisaligned LoadMisaligned
 abbrev pub denied : Bool → Answer
 denied store = cond store StoreAccess LoadAccess
 
--- the element of n bytes at address a, by the pages' rights and the number of bytes of memory
+-- the element of n bytes at address a, by the pages' rights and the number of bytes of memory. An aligned element lies on the page of its
+-- first byte (`OnePage`)
 unfoldable pub accessOf : List ℕ → ℕ → Bool → ℕ → ℕ → AccessCheck
 accessOf rights memory store a n =
     cond (not (eqb (a % n) 0)) (faultAt (misaligned store) a)
-    (cond (not (eqb (pageOf a) (pageOf (a + n - 1)))) (faultAt TwoPages a)
     (cond (leb (a + n) memory && leb (needed store) (getD rights (pageOf a) 0)) Granted
-    (faultAt (denied store) a)))
+    (faultAt (denied store) a))
 
 -- ---- the fields of a segment: each of n bytes, the first at address a
 

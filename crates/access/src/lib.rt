@@ -82,19 +82,13 @@ pub fn access(rights: &[u8], memory: usize, store: bool, a: u64, n: u64) -> Acce
     }
     // an aligned element ends below 2^64
     let last = a + (n - 1);
-    if a / 256 != last / 256 {
-        return fault_at(Answer::TwoPages, a);
-    }
     let size = memory as u64;
-    if size <= last {
-        return fault_at(denied_answer(store), a);
-    }
-    // below the end of memory, so one of the 256 pages
+    // below the end of memory it is one of the 256 pages, and that of every byte of the element
     let page = (a / 256) as usize;
-    if rights[page] < right_needed(store) {
-        return fault_at(denied_answer(store), a);
+    if last < size && right_needed(store) <= rights[page] {
+        return AccessCheck::Granted;
     }
-    AccessCheck::Granted
+    fault_at(denied_answer(store), a)
 }
 
 // The fields of a segment, each of n bytes, upward from the one at address a; nf of them follow it.

@@ -1,9 +1,10 @@
--- The number of each answer: the table of document 01, 'One turn and its answer'. 4 to 7 are the causes of the privileged manual.
+-- The number of each answer: the table of document 01, 'One turn and its answer', less one that no call gives (document 02, A7). 4 to 7 are
+-- the causes of the privileged manual.
 use Prim.Native.Nat.{ℕ}
 use Rattle.answer.specs.declared.Answer.{Answer}
 use Rattle.answer.specs.declared.Answer.the-variants.{Finished, Paused, Illegal, LoadMisaligned, LoadAccess, StoreMisaligned}
 use Rattle.answer.specs.declared.Answer.the-variants.{StoreAccess, BadRegisters, BadScalars, BadMemory, BadRights, BadControl}
-use Rattle.answer.specs.declared.Answer.the-variants.{TwoPages, NoGroup}
+use Rattle.answer.specs.declared.Answer.the-variants.{NoGroup}
 
 abbrev pub numberOf : Answer → ℕ
 numberOf Finished = 0
@@ -24,7 +25,5 @@ numberOf BadMemory = 34
 numberOf BadRights = 35
 -- control fields that can't be
 numberOf BadControl = 36
--- aligned element lies on two pages
-numberOf TwoPages = 37
 -- no such register group
 numberOf NoGroup = 38

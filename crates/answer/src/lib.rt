@@ -1,4 +1,4 @@
-// The answers of document 01, 'One turn and its answer'.
+// The answers of document 01, 'One turn and its answer', less one that no call gives (document 02, A7).
 ghost use mathlib.Core.Path.{_≡_};
 ghost use Rattle.answer.specs.Answer.{numberOf};
 
@@ -16,7 +16,6 @@ pub enum Answer {
     BadMemory,
     BadRights,
     BadControl,
-    TwoPages,
     NoGroup,
 }
 
@@ -43,7 +42,6 @@ pub fn number(answer: Answer) -> u64
         Answer::BadMemory => 34,
         Answer::BadRights => 35,
         Answer::BadControl => 36,
-        Answer::TwoPages => 37,
         Answer::NoGroup => 38,
     }
 }

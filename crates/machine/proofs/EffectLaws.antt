@@ -1,14 +1,12 @@
 -- What one element does: an element that is undisturbed does the same after an earlier one has written, and raised rights only lift faults.
-use Prim.Native.Nat.{ℕ, zero, suc, _+_, _-_, _%_, _≤_, _<_}
+use Prim.Native.Nat.{ℕ, zero, suc, _+_, _≤_, _<_}
 use mathlib.Core.Path.{_≡_, refl, sym, ap, ap₂, _∙_, subst}
-use mathlib.Core.Bool.{Bool, true, false, not, _&&_, cond}
+use mathlib.Core.Bool.{Bool, true, false, not, cond}
 use mathlib.Core.List.{List, [], _∷_}
 use native.Mathlib.Omega.{arith}
-use lib.ListN.{length, getD}
-use lib.Dec.{T, leb, eqb}
-use borrow.Author.Tests.{leb-true, le-leb}
+use lib.ListN.{length}
+use lib.Dec.{T, eqb}
 use Rattle.fixed.specs.declared.Element.{Element}
-use Rattle.answer.specs.declared.Answer.the-variants.{TwoPages}
 use Rattle.control.specs.declared.Board.{Board}
 use Rattle.layout.proofs.BytesLaws.{length-withBytes}
 use Rattle.group.specs.declared.Group.{Group}
@@ -16,8 +14,8 @@ use Rattle.group.specs.Group.{nfields, fieldGroup}
 use Rattle.access.specs.declared.Fault.{Fault}
 use Rattle.access.specs.declared.AccessCheck.{AccessCheck}
 use Rattle.access.specs.declared.AccessCheck.the-variants.{Granted, Faulted}
-use Rattle.access.specs.Access.{faultAt, pageOf, needed, misaligned, denied, accessOf, fieldAddress, fieldsAccess}
-use Rattle.access.proofs.AccessLaws.{granted-first, granted-next}
+use Rattle.access.specs.Access.{pageOf, accessOf, fieldAddress, fieldsAccess}
+use Rattle.access.proofs.AccessLaws.{facts-granted, granted-facts, granted-first, granted-next}
 use Rattle.plan.specs.declared.Read.the-variants as R
 use Rattle.plan.specs.declared.Action.{Action}
 use Rattle.plan.specs.declared.Action.the-variants as A
@@ -48,28 +46,12 @@ granted-write : (v : AccessCheck) (e : Effect Fault (List Write)) (l : List Writ
 granted-write Granted e l h = h
 granted-write (Faulted f) e l h = absurd (fault≢write f l h)
 
-test-held : (t : Bool) (f : Fault) → cond t Granted (Faulted f) ≡ Granted → t ≡ true
-test-held true f h = refl
-test-held false f h = cc
-
 access-opened : (r r′ : List ℕ) (memory : ℕ) (store : Bool) (a n : ℕ) → Opened r r′ → accessOf r memory store a n ≡ Granted
     → accessOf r′ memory store a n ≡ Granted
-unfolding accessOf
 access-opened r r′ memory store a n o h =
-    go (not (eqb (a % n) 0)) (not (eqb (pageOf a) (pageOf (a + n - 1)))) (leb (a + n) memory) h
-  where
-    last : Bool → List ℕ → AccessCheck
-    last l q = cond (l && leb (needed store) (getD q (pageOf a) 0)) Granted (faultAt (denied store) a)
-
-    go : (p q l : Bool) → cond p (faultAt (misaligned store) a) (cond q (faultAt TwoPages a) (last l r)) ≡ Granted
-        → cond p (faultAt (misaligned store) a) (cond q (faultAt TwoPages a) (last l r′)) ≡ Granted
-    go true q l h = h
-    go false true l h = h
-    go false false false h = h
-    go false false true h =
-        let k : leb (needed store) (getD r (pageOf a) 0) ≡ true = test-held _ _ h in
-        let m : needed store ≤ getD r (pageOf a) 0 = leb-true (needed store) (getD r (pageOf a) 0) k in
-        rw (le-leb (needed store) (getD r′ (pageOf a) 0) (omega (arith, m, o .at-least (pageOf a))))
+    let g = granted-facts r memory store a n h in
+    facts-granted r′ memory store a n
+    (record { aligned = g .aligned; inside = g .inside; right = omega (arith, g .right, o .at-least (pageOf a)) })
 
 -- fields that are granted are granted under raised rights
 fields-opened : (r r′ : List ℕ) (memory : ℕ) (store : Bool) (a n k others : ℕ) → Opened r r′

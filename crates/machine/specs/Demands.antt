@@ -8,7 +8,7 @@ use mathlib.Core.List.{List, [], _∷_}
 use lib.ListN.{length}
 use Rattle.answer.specs.declared.Answer.{Answer}
 use Rattle.answer.specs.declared.Answer.the-variants.{Finished, Paused, Illegal}
-use Rattle.answer.specs.declared.Answer.the-variants.{LoadMisaligned, LoadAccess, StoreMisaligned, StoreAccess, TwoPages}
+use Rattle.answer.specs.declared.Answer.the-variants.{LoadMisaligned, LoadAccess, StoreMisaligned, StoreAccess}
 use Rattle.answer.specs.declared.Answer.the-variants.{BadRegisters, BadScalars, BadMemory, BadRights, BadControl, NoGroup}
 use Rattle.answer.specs.declared.Verdict.the-variants.{Refused}
 use Rattle.control.specs.declared.Board.{Board}
@@ -17,7 +17,7 @@ use Rattle.refusal.specs.Refusal.{refusalOf}
 use Rattle.machine.specs.State.{State, Outcome, withRights}
 use Rattle.machine.specs.Machine.{endOf, Opened, planAt, turnOf}
 
--- "A trap is 4 to 7 or 37"
+-- "A trap is 4 to 7"; document 01 has one answer more here, which no call gives (document 02, A7)
 abbrev pub isTrap : Answer → Bool
 isTrap Finished = false
 isTrap Paused = false
@@ -31,7 +31,6 @@ isTrap BadScalars = false
 isTrap BadMemory = false
 isTrap BadRights = false
 isTrap BadControl = false
-isTrap TwoPages = true
 isTrap NoGroup = false
 
 -- 2, and the refusals 32 to 36. "A word is legal where the definition's answer is neither"
@@ -48,7 +47,6 @@ changesNothing BadScalars = true
 changesNothing BadMemory = true
 changesNothing BadRights = true
 changesNothing BadControl = true
-changesNothing TwoPages = false
 changesNothing NoGroup = false
 
 -- a turn that gives this answer and nothing else: no element passed, no fault, the state as it was

@@ -12,7 +12,7 @@ use borrow.Author.Tests.{eqb-true, eqb-false, ne-eqb}
 use Rattle.laws.proofs.Chain.{either}
 use Rattle.answer.specs.declared.Answer.{Answer}
 use Rattle.answer.specs.declared.Answer.the-variants.{Finished, Paused, Illegal, LoadMisaligned, LoadAccess, StoreMisaligned, StoreAccess}
-use Rattle.answer.specs.declared.Answer.the-variants.{BadRegisters, BadScalars, BadMemory, BadRights, BadControl, TwoPages, NoGroup}
+use Rattle.answer.specs.declared.Answer.the-variants.{BadRegisters, BadScalars, BadMemory, BadRights, BadControl, NoGroup}
 use Rattle.answer.specs.Answer.{numberOf}
 use Rattle.control.specs.declared.Board.{Board}
 use Rattle.control.specs.Board.{Valid, base}
@@ -44,7 +44,6 @@ paused-is BadScalars h = absurd (omega arith)
 paused-is BadMemory h = absurd (omega arith)
 paused-is BadRights h = absurd (omega arith)
 paused-is BadControl h = absurd (omega arith)
-paused-is TwoPages h = absurd (omega arith)
 paused-is NoGroup h = absurd (omega arith)
 
 module _ (b : Board) (word n : ℕ) (s : State) where

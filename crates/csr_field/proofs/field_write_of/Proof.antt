@@ -19,7 +19,7 @@ use Rattle.csr_field.proofs.field_write_of.Tie as tie
 
 -- the tags of the answers but `Finished`
 abbrev others : List ℕ
-others = 1 ∷ 2 ∷ 3 ∷ 4 ∷ 5 ∷ 6 ∷ 7 ∷ 8 ∷ 9 ∷ 10 ∷ 11 ∷ 12 ∷ 13 ∷ []
+others = 1 ∷ 2 ∷ 3 ∷ 4 ∷ 5 ∷ 6 ∷ 7 ∷ 8 ∷ 9 ∷ 10 ∷ 11 ∷ 12 ∷ []
 
 module _ (b : Board) (c : Control) (csr x : ℕ) (w : CsrWrite) (e : w ≡ writtenOf b c csr x) where
   answered : w .answer ≡ writtenOf b c csr x .answer
