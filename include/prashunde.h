@@ -9,10 +9,10 @@
  *   scalars     32 numbers: x0 to x31. x0 reads 0, and its slot is never written
  *   memory      0 to 65536 bytes, from address 0
  *   rights      256 bytes, one for each page of 256 bytes: 0 closed, 1 read, 2 read and write
- *   control     5 numbers: vtype, vl, vstart, vxrm, vxsat
+ *   control     6 numbers: vtype, vl, vstart, vxrm, vxsat, vs. vs is the status field VS of mstatus: 0 Off, 1 Initial, 2 Clean, 3 Dirty
  *
- * WHAT THE CALLER OWES. Every pointer is valid for its length, aligned for its type, and not NULL (not even beside a length of 0). Parts that
- * are written overlap no other part of the same call. All else is tested: a wrong length or a wrong value is answered and changes nothing.
+ * WHAT THE CALLER OWES. Every pointer is valid for its length, aligned for its type, and not NULL (not even beside a length of 0). Parts
+ * that are written overlap no other part of the same call. All else is tested: a wrong length or a wrong value is answered and changes nothing.
  */
 #ifndef PRASHUNDE_H
 #define PRASHUNDE_H
@@ -28,8 +28,8 @@ extern "C" {
 enum {
     PRASHUNDE_FINISHED = 0,         /* no element remains; vstart is 0 */
     PRASHUNDE_PAUSED = 1,           /* the allowance is used up; vstart is the next element */
-    PRASHUNDE_ILLEGAL = 2,          /* a reserved, left out or unsupported word (also one that reads one register at two different EEWs), or no
-                                       such CSR; nothing is changed */
+    PRASHUNDE_ILLEGAL = 2,          /* a reserved, left out or unsupported word (also one that reads one register at two different EEWs),
+                                       or no such CSR; any word and any CSR where vs is 0 (Off); nothing is changed */
     PRASHUNDE_LOAD_MISALIGNED = 4,  /* 4 to 7: the elements before the faulting one are done, vstart is that element */
     PRASHUNDE_LOAD_ACCESS = 5,      /* past memory, or the page may not be read; an aligned element lies on one page */
     PRASHUNDE_STORE_MISALIGNED = 6,
@@ -38,7 +38,7 @@ enum {
     PRASHUNDE_BAD_SCALARS = 33,     /* scalars_len is not 32 */
     PRASHUNDE_BAD_MEMORY = 34,      /* memory_len is over 65536 */
     PRASHUNDE_BAD_RIGHTS = 35,      /* rights_len is not 256, or a right is above 2 */
-    PRASHUNDE_BAD_CONTROL = 36,     /* control fields that cannot be */
+    PRASHUNDE_BAD_CONTROL = 36,     /* control fields that cannot be; vs above 3 is one */
     PRASHUNDE_NO_GROUP = 38         /* no such register group (prashunde_view alone) */
 };
 
@@ -50,27 +50,29 @@ enum {
  *   passed    gets the number of elements passed, masked-off ones included
  *   address   gets the address of the first byte of the faulting element (answers 4 to 7), or of a segment's first faulting field;
  *             otherwise 0
- * Returns the answer. On 2 and 32 to 36 registers, scalars, memory and control are as before, and passed and address get 0.
+ * Returns the answer. On 0, 1 and 4 to 7 vs becomes 3 (Dirty), also where nothing was passed. On 2 and 32 to 36 registers, scalars, memory
+ * and control are as before, and passed and address get 0.
  */
 uint64_t prashunde_turn(uint32_t word, uint32_t allowance,
                         uint8_t *registers, size_t registers_len,
                         uint64_t *scalars, size_t scalars_len,
                         uint8_t *memory, size_t memory_len,
                         const uint8_t *rights, size_t rights_len,
-                        uint64_t control[5], uint64_t *passed, uint64_t *address);
+                        uint64_t control[6], uint64_t *passed, uint64_t *address);
 
 /*
  * Reads the CSR with the number `csr`: 0x008 vstart, 0x009 vxsat, 0x00A vxrm, 0x00F vcsr, 0xC20 vl, 0xC21 vtype, 0xC22 vlenb.
  *   value   gets what is read, and 0 beside any other answer than 0
- * Returns 0; 36 for a control record that cannot be; then 2 for any other number.
+ * Returns 0; 36 for a control record that cannot be; then 2 where vs is 0 (Off), and for any other number.
  */
-uint64_t prashunde_csr_read(uint64_t csr, const uint64_t control[5], uint64_t *value);
+uint64_t prashunde_csr_read(uint64_t csr, const uint64_t control[6], uint64_t *value);
 
 /*
- * Writes the low bits of `value` to a CSR in `control`: 7 bits to 0x008 vstart, 1 to 0x009 vxsat, 2 to 0x00A vxrm, 3 to 0x00F vcsr (vxrm and
- * vxsat). Returns 0; 36 for a control record that cannot be; then 2 for any other number. Control is as before beside both.
+ * Writes the low bits of `value` to a CSR in `control`: 7 bits to 0x008 vstart, 1 to 0x009 vxsat, 2 to 0x00A vxrm, 3 to 0x00F vcsr (vxrm
+ * and vxsat); vs becomes 3 (Dirty). Returns 0; 36 for a control record that cannot be; then 2 where vs is 0 (Off), and for any other
+ * number. Control is as before beside both.
  */
-uint64_t prashunde_csr_write(uint64_t csr, uint64_t value, uint64_t control[5]);
+uint64_t prashunde_csr_write(uint64_t csr, uint64_t value, uint64_t control[6]);
 
 /*
  * Where the group of `count` registers (1, 2, 4 or 8) from v`first` on lies; `first` is a multiple of `count`, and at most 31.
@@ -79,18 +81,19 @@ uint64_t prashunde_csr_write(uint64_t csr, uint64_t value, uint64_t control[5]);
  */
 uint64_t prashunde_view(const uint8_t *registers, size_t registers_len, size_t first, size_t count, size_t *start, size_t *size);
 
-/* Sets control to its state at reset: vtype is 2^63 (vill), all others 0. */
-void prashunde_reset(uint64_t control[5]);
+/* Sets control to its state at reset: vtype is 2^63 (vill), vs is 1 (Initial), all others 0. */
+void prashunde_reset(uint64_t control[6]);
 
 /* The greatest length of what a sheet prints: a buffer of this length is long enough for every sheet. */
-#define PRASHUNDE_SHEET_MAX 1060000
+#define PRASHUNDE_SHEET_MAX 1660000
 
 /*
  * Runs a sheet on a machine of its own, as the program sheet_main does. Any bytes will do: a bad sheet prints sheet=bad and its first bad
  * line. Sheet and buffer do not overlap.
  *   out   gets the text, with no NUL after it, where out_len is at least its length. A shorter buffer is left as it was, and so are the
  *         bytes behind the text
- * Returns the length of the text, also where it does not fit. To ask for the length alone, give an out_len of 0 and a pointer that is not NULL.
+ * Returns the length of the text, also where it does not fit. To ask for the length alone, give an out_len of 0 and a pointer that is
+ * not NULL.
  */
 uint64_t prashunde_sheet(const uint8_t *sheet, size_t sheet_len, uint8_t *out, size_t out_len);
 

@@ -5,8 +5,8 @@
 
 writes stdin (the cases) and stdout (what the program must print) from files with lines of the forms
 
-    read csr vtype vl vstart vxrm vxsat : answer value
-    write csr value vtype vl vstart vxrm vxsat : answer vtype vl vstart vxrm vxsat
+    read csr vtype vl vstart vxrm vxsat vs : answer value
+    write csr value vtype vl vstart vxrm vxsat vs : answer vtype vl vstart vxrm vxsat vs
     view file-length first count : answer first-byte size
 
 csr, value and vtype are hex, the others decimal. The program prints what a write and a view give twice, each by two calls, and of a view a
@@ -36,7 +36,7 @@ def case(line):
     if kind == 'write':
         return 'w', numbers(words, (0, 1, 2)), [gives] * 2
     start, size = (int(word) for word in gives.split()[1:])
-    return 'v', numbers(words, ()) + [0] * 4, ['%s %d' % (gives, checksum(start, size))] * 2
+    return 'v', numbers(words, ()) + [0] * 5, ['%s %d' % (gives, checksum(start, size))] * 2
 
 def main():
     cases = [case(line) for name in sys.argv[2:] for line in open(name) if line.strip() and line[0] != '#']

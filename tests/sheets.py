@@ -4,8 +4,8 @@
     tests/sheets.py crates/sheets_main DIR..     writes stdin and stdout
     tests/sheets.py --model SHEET..              prints what the model below makes of each sheet
 
-stdin has each NAME.sheet of the folders and the sheets of `damaged`, stdout what each must print (NAME.out, or what the model gives) and the two
-lines that the program writes after it. The model reads a sheet line by line and runs a few instructions (`Machine.plan`), written from the
+stdin has each NAME.sheet of the folders and the sheets of `damaged`, stdout what each must print (NAME.out, or what the model gives) and the
+two lines that the program writes after it. The model reads a sheet line by line and runs a few instructions (`Machine.plan`), written from the
 standard on Python's integers. Where it knows every word of a sheet, it must give what NAME.out says.
 """
 import glob
@@ -60,7 +60,7 @@ class Machine:
         self.rights = ['-rw'.index(chr(mark)) for mark in rights] + [0] * 240
         self.x = [0] * 10 + [int(x, 16) for x in (x10, x11, x12)] + [0] * 19
         self.memory, self.file = bytearray(a % 256 for a in range(4096)), bytearray(512)
-        self.vtype, self.vl, self.vstart = 1 << 63, 0, 0
+        self.vtype, self.vl, self.vstart, self.vs = 1 << 63, 0, 0, 1
 
     def set_type(self, word):
         rd, rs1, immediate = word >> 7 & 31, word >> 15 & 31, word >> 30 == 3
@@ -146,7 +146,9 @@ def run(sheet):
     for word in words:
         while True:
             answer = m.turn(word, int(allow))
-            text += 'word=%08x\nanswer=%d\nvstart=%d\nvl=%d\nvtype=%016x\n' % (word, answer, m.vstart, m.vl, m.vtype)
+            if answer != 2:
+                m.vs = 3
+            text += 'word=%08x\nanswer=%d\nvstart=%d\nvl=%d\nvtype=%016x\nvs=%d\n' % (word, answer, m.vstart, m.vl, m.vtype, m.vs)
             if answer != 1:
                 break
         if answer:

@@ -5,10 +5,10 @@
 
 writes stdin (the cases) and stdout (what the program must print) from vector files of the form
 
-    word allowance vtype vl vstart vxrm vxsat INPUT.. : answer passed fault vtype vl vstart vxrm vxsat CHANGE..
+    word allowance vtype vl vstart vxrm vxsat vs INPUT.. : answer passed fault vtype vl vstart vxrm vxsat vs CHANGE..
 
-An INPUT is xN=HEX, vN=BYTES, pA-B=RIGHT, size=N (of memory), file=N, scalars=N or pages=N; a CHANGE is xN=HEX, vN=BYTES or mA=BYTES. What no
-INPUT names has the values of `scalars`, `registers` and `memory` below. The program prints each changed byte or scalar by itself, so
+An INPUT is xN=HEX, vN=BYTES, pA-B=RIGHT, size=N (of memory), file=N, scalars=N or pages=N; a CHANGE is xN=HEX, vN=BYTES or mA=BYTES. What
+no INPUT names has the values of `scalars`, `registers` and `memory` below. The program prints each changed byte or scalar by itself, so
 that what is written does not depend on how a vector groups its changes.
 """
 import sys
@@ -28,16 +28,17 @@ def cut(values, n):
 class Case:
     def __init__(self, line):
         given, gives = line.split(' : ')
-        head, self.inputs = given.split()[:7], [i.split('=') for i in given.split()[7:]]
+        head, self.inputs = given.split()[:8], [i.split('=') for i in given.split()[8:]]
         self.word, self.allowance, vtype = (int(x, 16) for x in head[:3])
         self.control = [vtype] + [int(x) for x in head[3:]]
         lengths = {'file': 512, 'scalars': 32, 'size': 65536, 'pages': 256}
         lengths.update((k, int(v)) for k, v in self.inputs if k in lengths)
         self.lengths = [lengths[k] for k in ('file', 'scalars', 'size', 'pages')]
-        self.answer, self.changes = gives.split()[:8], [c.split('=') for c in gives.split()[8:]]
+        self.answer, self.changes = gives.split()[:9], [c.split('=') for c in gives.split()[9:]]
 
     def lines(self):
-        yield 'c%08x%08x' % (self.word, self.allowance) + ''.join('%016x' % x for x in self.control) + ''.join('%08x' % n for n in self.lengths)
+        yield ('c%08x%08x' % (self.word, self.allowance) + ''.join('%016x' % x for x in self.control)
+               + ''.join('%08x' % n for n in self.lengths))
         for key, value in self.inputs:
             if key[0] == 'x':
                 yield 'x%02x%016x' % (int(key[1:]), int(value, 16))

@@ -11,7 +11,7 @@ struct State {
     scalars: Vec<u64>,
     memory: Vec<u8>,
     rights: Vec<u8>,
-    control: [u64; 5],
+    control: [u64; 6],
 }
 
 // Bytes of a linear congruential generator; indices stay below 256, so each address is in memory.
@@ -29,7 +29,7 @@ fn state(row: &Row) -> State {
         scalars,
         memory: (0..65_536).map(|_| byte()).collect(),
         rights: vec![2; 256],
-        control: [row.vtype, row.vl, 0, 0, 0],
+        control: [row.vtype, row.vl, 0, 0, 0, 1],
     }
 }
 
@@ -53,10 +53,10 @@ fn turn(word: u32, s: &mut State, passed: &mut u64, address: &mut u64) -> u64 {
     }
 }
 
-// Whether the five control fields can be, for VLEN 128 and ELEN 64.
-fn possible(c: &[u64; 5]) -> bool {
+// Whether the six control fields can be, for VLEN 128 and ELEN 64.
+fn possible(c: &[u64; 6]) -> bool {
     const LMUL8: [u64; 8] = [8, 16, 32, 64, 0, 1, 2, 4];
-    let [vtype, vl, vstart, vxrm, vxsat] = *c;
+    let [vtype, vl, vstart, vxrm, vxsat, vs] = *c;
     let typed = if vtype == 1 << 63 {
         vl == 0
     } else {
@@ -64,7 +64,7 @@ fn possible(c: &[u64; 5]) -> bool {
         let sew = 8 << (vtype / 8 % 8);
         vtype < 256 && sew <= 64 && lmul8 != 0 && (8 <= lmul8 || 8 * sew <= 64 * lmul8) && vl <= lmul8 * 16 / sew
     };
-    typed && vstart < 128 && vxrm <= 3 && vxsat <= 1
+    typed && vstart < 128 && vxrm <= 3 && vxsat <= 1 && vs <= 3
 }
 
 // The plain loop: the refusals of a turn, and the first word's work, byte by byte in place. It decodes nothing.
@@ -91,13 +91,17 @@ fn plain(vd: usize, vs2: usize, vs1: usize, s: &mut State, passed: &mut u64) -> 
     if !possible(&s.control) {
         return 36;
     }
-    let [_, vl, vstart, _, _] = s.control;
+    let [_, vl, vstart, _, _, vs] = s.control;
+    if vs == 0 {
+        return 2;
+    }
     let registers = &mut s.registers[..];
     for i in vstart as usize..vl as usize {
         registers[16 * vd + i] = registers[16 * vs2 + i].wrapping_add(registers[16 * vs1 + i]);
     }
     *passed = vl.saturating_sub(vstart);
     s.control[2] = 0;
+    s.control[5] = 3;
     0
 }
 
@@ -134,11 +138,11 @@ fn agree() {
     for vl in 0..=128 {
         for vstart in 0..128 {
             let mut s = state(&ROWS[0]);
-            s.control = [ROWS[0].vtype, vl, vstart, 0, 0];
+            s.control = [ROWS[0].vtype, vl, vstart, 0, 0, 1];
             assert_eq!(same(s), 0);
         }
     }
-    let damage: [(u64, fn(&mut State)); 11] = [
+    let damage: [(u64, fn(&mut State)); 13] = [
         (32, |s| s.registers.truncate(511)),
         (33, |s| s.scalars.push(0)),
         (34, |s| s.memory.push(0)),
@@ -150,6 +154,8 @@ fn agree() {
         (36, |s| s.control[2] = 128),
         (36, |s| s.control[3] = 4),
         (36, |s| s.control[4] = 2),
+        (36, |s| s.control[5] = 4),
+        (2, |s| s.control[5] = 0),
     ];
     for (answer, wrong) in damage {
         let mut s = state(&ROWS[0]);

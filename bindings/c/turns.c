@@ -1,20 +1,22 @@
-/* A load in three turns: a closed page stops it, then an allowance of 3 pauses it; a load of segments in two; and one that is not aligned. Then
- * the other calls, and a sheet. bindings/rust/examples/turns.rs prints the same. */
+/* A load in three turns: a closed page stops it, then an allowance of 3 pauses it; a load of segments in two; and one that is not
+ * aligned. Then the other calls, what VS does, and a sheet. bindings/rust/examples/turns.rs prints the same. */
 #include "prashunde.h"
 #include <inttypes.h>
 #include <stdio.h>
 #include <string.h>
 
 static uint8_t registers[512], memory[4096], rights[256];
-static uint64_t scalars[32], control[5];
+static uint64_t scalars[32], control[6];
 
 static void turn(const char *name, uint32_t word, uint32_t allowance)
 {
     uint64_t passed, address;
     uint64_t answer = prashunde_turn(word, allowance, registers, sizeof registers, scalars, 32, memory, sizeof memory,
                                      rights, sizeof rights, control, &passed, &address);
-    printf("%s: answer %" PRIu64 ", passed %" PRIu64 ", address %" PRIu64 ", control %" PRIx64 " %" PRIu64 " %" PRIu64 " %" PRIu64 " %" PRIu64 "\n",
-           name, answer, passed, address, control[0], control[1], control[2], control[3], control[4]);
+    printf("%s: answer %" PRIu64 ", passed %" PRIu64 ", address %" PRIu64 ", control %" PRIx64, name, answer, passed, address, control[0]);
+    for (size_t i = 1; i < 6; i++)
+        printf(" %" PRIu64, control[i]);
+    printf("\n");
 }
 
 static void view(size_t first, size_t count)
@@ -76,6 +78,14 @@ int main(void)
     csr(0x00f, 15);
     csr(0xc22, 1);
     csr(0x001, 1);
+    control[5] = 1;
+    turn("vle8.v v8, (x11), allowance 0", 0x02058407, 0); /* a pause sets VS Dirty too */
+    control[5] = 0;
+    turn("VS Off", 0x00157657, UINT32_MAX);
+    csr(0xc22, 1);
+    control[5] = 4;
+    turn("VS above 3", 0x02058407, UINT32_MAX);
+    control[5] = 1;
     control[1] = 33;
     turn("vl above VLMAX", 0x02058407, UINT32_MAX);
     sheet("rights=w---------------\nx10=0000000000000003\nx11=00000000000000f8\nx12=0000000000000000\nallow=1\n"

@@ -1,5 +1,5 @@
-//! A load in three turns: a closed page stops it, then an allowance of 3 pauses it; a load of segments in two; and one that is not aligned. Then
-//! the other calls, and a sheet. bindings/c/turns.c prints the same.
+//! A load in three turns: a closed page stops it, then an allowance of 3 pauses it; a load of segments in two; and one that is not
+//! aligned. Then the other calls, what VS does, and a sheet. bindings/c/turns.c prints the same.
 use prashunde::{csr_read, csr_write, sheet, sheet_into, turn, view, Answer, Control};
 
 struct Machine {
@@ -27,8 +27,8 @@ impl Machine {
         );
         let c = self.control;
         println!(
-            "{name}: answer {}, passed {}, address {}, control {:x} {} {} {} {}",
-            t.answer as u64, t.passed, t.address, c.vtype, c.vl, c.vstart, c.vxrm, c.vxsat
+            "{name}: answer {}, passed {}, address {}, control {:x} {} {} {} {} {}",
+            t.answer as u64, t.passed, t.address, c.vtype, c.vl, c.vstart, c.vxrm, c.vxsat, c.vs
         );
     }
 
@@ -92,6 +92,14 @@ fn main() {
     m.csr(0x00f, 15);
     m.csr(0xc22, 1);
     m.csr(0x001, 1);
+    m.control.vs = 1;
+    m.turn("vle8.v v8, (x11), allowance 0", 0x02058407, 0); // a pause sets VS Dirty too
+    m.control.vs = 0;
+    m.turn("VS Off", 0x00157657, u32::MAX);
+    m.csr(0xc22, 1);
+    m.control.vs = 4;
+    m.turn("VS above 3", 0x02058407, u32::MAX);
+    m.control.vs = 1;
     m.control.vl = 33;
     m.turn("vl above VLMAX", 0x02058407, u32::MAX);
     print_sheet(concat!(

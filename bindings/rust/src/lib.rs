@@ -1,5 +1,5 @@
-//! A RISC-V vector machine for the classroom. The functions wrap the calls of `include/prashunde.h`, which says what each does. They are safe
-//! on every input: the calls test all that they are given, and slices and references are as the calls need them.
+//! A RISC-V vector machine for the classroom. The functions wrap the calls of `include/prashunde.h`, which says what each does. They are
+//! safe on every input: the calls test all that they are given, and slices and references are as the calls need them.
 
 /// The calls themselves, for a caller that wants no wrapper; `include/prashunde.h` says what they need.
 pub mod ffi {
@@ -40,7 +40,8 @@ pub mod ffi {
 pub enum Answer {
     Finished = 0,
     Paused = 1,
-    /// A reserved, left out or unsupported word (also one that reads one register at two different EEWs), or no such CSR.
+    /// A reserved, left out or unsupported word (also one that reads one register at two different EEWs), or no such CSR; any word and any
+    /// CSR where VS is Off.
     Illegal = 2,
     LoadMisaligned = 4,
     LoadAccess = 5,
@@ -84,7 +85,7 @@ impl Answer {
     }
 }
 
-/// The control record.
+/// The control record. `vs` is the status field VS of mstatus: 0 Off, 1 Initial, 2 Clean, 3 Dirty.
 #[derive(Clone, Copy, Debug, PartialEq, Eq)]
 pub struct Control {
     pub vtype: u64,
@@ -92,32 +93,35 @@ pub struct Control {
     pub vstart: u64,
     pub vxrm: u64,
     pub vxsat: u64,
+    pub vs: u64,
 }
 
 impl Control {
-    /// The record at reset: vill alone.
+    /// The record at reset: vill, and VS Initial.
     pub fn reset() -> Control {
-        let mut fields = [0; 5];
+        let mut fields = [0; 6];
         unsafe { ffi::prashunde_reset(fields.as_mut_ptr()) };
         Control::of(fields)
     }
 
-    fn of([vtype, vl, vstart, vxrm, vxsat]: [u64; 5]) -> Control {
+    fn of([vtype, vl, vstart, vxrm, vxsat, vs]: [u64; 6]) -> Control {
         Control {
             vtype,
             vl,
             vstart,
             vxrm,
             vxsat,
+            vs,
         }
     }
 
-    fn fields(self) -> [u64; 5] {
-        [self.vtype, self.vl, self.vstart, self.vxrm, self.vxsat]
+    fn fields(self) -> [u64; 6] {
+        [self.vtype, self.vl, self.vstart, self.vxrm, self.vxsat, self.vs]
     }
 }
 
-/// What a turn gives beside what it leaves in the lent parts. The address is that of the faulting element, or of a segment's first faulting field.
+/// What a turn gives beside what it leaves in the lent parts. The address is that of the faulting element, or of a segment's first
+/// faulting field.
 #[derive(Clone, Copy, Debug, PartialEq, Eq)]
 pub struct Turned {
     pub answer: Answer,

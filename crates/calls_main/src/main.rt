@@ -1,4 +1,4 @@
-// Runs the reads and writes by CSR number and the register view on given cases. Each line of standard input is a letter and seven numbers
+// Runs the reads and writes by CSR number and the register view on given cases. Each line of standard input is a letter and eight numbers
 // of 16 hex digits: 'r' csr, 0, control record; 'w' csr, value, control record; 'v' length of the file, first register, count, and zeros.
 // A read writes one line. A write writes two: by the call that is lent the record, then by the call that takes it by value. A view
 // writes two: by `view_with`, then by `place` and `view`; the start is told by the bytes found there, and a checksum is of all.
@@ -14,7 +14,7 @@ fn control_of(line: &[u8]) -> Control {
 
 // The control record on standard output.
 fn print_control(control: Control) {
-    let mut text = [0u8; 100];
+    let mut text = [0u8; 121];
     let n = case_lines::control_text(&mut text, 0, control);
     let k = io::count(n as isize, &text);
     io::write_all(1, &text[..k]);
@@ -125,9 +125,9 @@ fn views(line: &[u8], file: &[u8]) {
 
 // The next line; false where there is none.
 fn step(file: &[u8]) -> bool {
-    let mut line = [0u8; 114];
+    let mut line = [0u8; 130];
     let n = io::read_full(0, &mut line);
-    if n < 114 {
+    if n < 130 {
         return false;
     }
     match line[0] {

@@ -1,4 +1,4 @@
-// The calls with the C ABI. A slice crosses as a pointer and a length, the control record as an array of five numbers.
+// The calls with the C ABI. A slice crosses as a pointer and a length, the control record as an array of six numbers.
 ghost use mathlib.Core.Path.{_≡_};
 ghost use Prim.Native.Nat.{_≤_};
 ghost use lib.ListN.{length};
@@ -23,7 +23,7 @@ pub extern "C" fn prashunde_turn(
     scalars: &mut [u64],
     memory: &mut [u8],
     rights: &[u8],
-    control: &mut [u64; 5],
+    control: &mut [u64; 6],
     passed: &mut u64,
     address: &mut u64,
 ) -> u64
@@ -54,11 +54,12 @@ pub extern "C" fn prashunde_turn(
     answer::number(answer)
 }
 
-// A CSR of the record; 0 beside any other answer than 0.
+// A CSR of the record; 0 beside any other answer than 0. The record is as before: a read sets no VS.
 #[no_mangle]
-pub extern "C" fn prashunde_csr_read(csr: u64, control: &[u64; 5], value: &mut u64) -> u64
+pub extern "C" fn prashunde_csr_read(csr: u64, control: &[u64; 6], value: &mut u64) -> u64
     ensures { λ r. ⌜ r ≡ numberOf (readOf base (recordOf (now (control .entry))) csr .answer) ⌝ }
     ensures { λ _. ⌜ now (value .exit) ≡ readOf base (recordOf (now (control .entry))) csr .value ⌝ }
+    ensures { λ _. ⌜ now (control .exit) ≡ now (control .entry) ⌝ }
 {
     let read = csr::read(Control::of_fields(*control), csr);
     let answer = read.answer;
@@ -68,7 +69,7 @@ pub extern "C" fn prashunde_csr_read(csr: u64, control: &[u64; 5], value: &mut u
 
 // The record after a write, through the write on a lent record; the same record beside any other answer than 0.
 #[no_mangle]
-pub extern "C" fn prashunde_csr_write(csr: u64, value: u64, control: &mut [u64; 5]) -> u64
+pub extern "C" fn prashunde_csr_write(csr: u64, value: u64, control: &mut [u64; 6]) -> u64
     ensures { λ r. ⌜ r ≡ numberOf (writtenOf base (recordOf (now (control .entry))) csr value .answer) ⌝ }
     ensures { λ _. ⌜ now (control .exit) ≡ fieldsOf (writtenOf base (recordOf (now (control .entry))) csr value .control) ⌝ }
 {
@@ -99,9 +100,9 @@ pub extern "C" fn prashunde_view(
     answer::number(answer)
 }
 
-// The record after reset: vill alone.
+// The record after reset: vill, and VS Initial.
 #[no_mangle]
-pub extern "C" fn prashunde_reset(control: &mut [u64; 5])
+pub extern "C" fn prashunde_reset(control: &mut [u64; 6])
     ensures { λ _. ⌜ now (control .exit) ≡ fieldsOf reset ⌝ }
 {
     let after = Control::reset();

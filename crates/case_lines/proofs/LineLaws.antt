@@ -46,10 +46,10 @@ module _ (c : Control) (l : List ℕ) (e : l ≡ fieldsOf c) {o o1 : List ℕ} {
   pub fields-room : (x i n : ℕ) → a ≤ 2 ^ 29 → Wrote o a (shortHex x) o1 a1 → a1 + 21 * length (take n (drop i l)) ≤ 2 ^ 30
   fields-room x i n h w = rw (length-take n (drop i l), length-drop i l, e) (omega (arith, short-length x, w .ends))
 
-  pub control-wrote : {o2 : List ℕ} {a2 : ℕ} → Wrote o a (shortHex (getD l 0 0)) o1 a1 → Wrote o1 a1 (spaced (take 4 (drop 1 l))) o2 a2
+  pub control-wrote : {o2 : List ℕ} {a2 : ℕ} → Wrote o a (shortHex (getD l 0 0)) o1 a1 → Wrote o1 a1 (spaced (take 5 (drop 1 l))) o2 a2
       → Wrote o a (controlText c) o2 a2
   control-wrote v w = both (rw e at v) (rw e at w)
 
-  pub control-within : {o2 : List ℕ} {a2 : ℕ} → Wrote o a (shortHex (getD l 0 0)) o1 a1 → Wrote o1 a1 (spaced (take 4 (drop 1 l))) o2 a2
-      → a2 ≤ a + 100
+  pub control-within : {o2 : List ℕ} {a2 : ℕ} → Wrote o a (shortHex (getD l 0 0)) o1 a1 → Wrote o1 a1 (spaced (take 5 (drop 1 l))) o2 a2
+      → a2 ≤ a + 121
   control-within v w = omega (arith, short-length (getD l 0 0), v .ends, spaced-upto (drop 1 (fieldsOf c)), (rw e at w) .ends)

@@ -17,6 +17,7 @@ controlAt s at =
     ∷ numberAt s (at + 32) 16
     ∷ numberAt s (at + 48) 16
     ∷ numberAt s (at + 64) 16
+    ∷ numberAt s (at + 80) 16
     ∷ [])
 
 -- each number in decimal, after a space

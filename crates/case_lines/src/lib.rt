@@ -17,6 +17,7 @@ pub fn control_at(line: &[u8], at: u32) -> Control
         hexadecimal::number(line, at + 32, 16),
         hexadecimal::number(line, at + 48, 16),
         hexadecimal::number(line, at + 64, 16),
+        hexadecimal::number(line, at + 80, 16),
     ])
 }
 
@@ -38,7 +39,7 @@ fn put_spaced(out: &mut [u8], at: usize, numbers: &[u64]) -> usize
 // The control record: vtype in hex, then the other fields in decimal.
 pub fn control_text(out: &mut [u8], at: usize, control: Control) -> usize
     requires { ⌜ at ≤ 2 ^ 29 ⌝ }
-    ensures { λ r. ⌜ Wrote (now (out .entry)) at (controlText control) (now (out .exit)) r × (r ≤ at + 100) ⌝ }
+    ensures { λ r. ⌜ Wrote (now (out .entry)) at (controlText control) (now (out .exit)) r × (r ≤ at + 121) ⌝ }
 {
     let fields = control.fields();
     let next = text::put_short_hex(out, at, fields[0]);

@@ -84,9 +84,10 @@ pub record Possible (b : Board) (c : Control) : Type 0 where
   pub vstart : c .vstart < 8 * b .vlenb
   pub vxrm : c .vxrm ≤ 3
   pub vxsat : c .vxsat ≤ 1
+  pub vs : c .vs ≤ 3
 
 pub possible-apart : (b : Board) (c : Control) → possibleOf b c ≡ true → Possible b c
 unfolding possibleOf
 possible-apart b c e =
     let t : typedWellOf b c ≡ true = search apart in
-    record { typed = t; vl = typed-well-vl b c t; vstart = search apart; vxrm = search apart; vxsat = search apart }
+    record { typed = t; vl = typed-well-vl b c t; vstart = search apart; vxrm = search apart; vxsat = search apart; vs = search apart }

@@ -10,35 +10,57 @@ use Rattle.control.specs.declared.Avl.{Avl}
 use Rattle.control.specs.declared.Avl.the-variants.{To, Keep}
 use Rattle.control.specs.Vtype.{vill, vlmaxOf, supportedOf}
 
--- section 4.11; document 01: vtype is 2^63 (vill), all others 0
+-- ---- the status field VS of mstatus (section 4.2; document 02, A8: "0 Off, 1 Initial, 2 Clean, 3 Dirty")
+
+abbrev pub off : ℕ
+off = 0
+
+abbrev pub initial : ℕ
+initial = 1
+
+abbrev pub dirty : ℕ
+dirty = 3
+
+-- section 4.11; document 01: vtype is 2^63 (vill), all others 0; A8: VS is "1 at reset"
 abbrev pub reset : Control
-reset = record { vtype = vill; vl = 0; vstart = 0; vxrm = 0; vxsat = 0 }
+reset = record { vtype = vill; vl = 0; vstart = 0; vxrm = 0; vxsat = 0; vs = initial }
 
 -- ---- the record with one thing changed; vtype and vl go together
 
 abbrev pub withVtype : Control → ℕ → ℕ → Control
-withVtype c v vl = record { vtype = v; vl = vl; vstart = c .vstart; vxrm = c .vxrm; vxsat = c .vxsat }
+withVtype c v vl = record { vtype = v; vl = vl; vstart = c .vstart; vxrm = c .vxrm; vxsat = c .vxsat; vs = c .vs }
 
 abbrev pub withVstart : Control → ℕ → Control
-withVstart c i = record { vtype = c .vtype; vl = c .vl; vstart = i; vxrm = c .vxrm; vxsat = c .vxsat }
+withVstart c i = record { vtype = c .vtype; vl = c .vl; vstart = i; vxrm = c .vxrm; vxsat = c .vxsat; vs = c .vs }
 
 abbrev pub withVxrm : Control → ℕ → Control
-withVxrm c rm = record { vtype = c .vtype; vl = c .vl; vstart = c .vstart; vxrm = rm; vxsat = c .vxsat }
+withVxrm c rm = record { vtype = c .vtype; vl = c .vl; vstart = c .vstart; vxrm = rm; vxsat = c .vxsat; vs = c .vs }
 
 abbrev pub withVxsat : Control → ℕ → Control
-withVxsat c sat = record { vtype = c .vtype; vl = c .vl; vstart = c .vstart; vxrm = c .vxrm; vxsat = sat }
+withVxsat c sat = record { vtype = c .vtype; vl = c .vl; vstart = c .vstart; vxrm = c .vxrm; vxsat = sat; vs = c .vs }
 
--- ---- the record as numbers, in this order: vtype, vl, vstart, vxrm, vxsat
+abbrev pub withVs : Control → ℕ → Control
+withVs c v = record { vtype = c .vtype; vl = c .vl; vstart = c .vstart; vxrm = c .vxrm; vxsat = c .vxsat; vs = v }
+
+abbrev pub dirtied : Control → Control
+dirtied c = withVs c dirty
+
+-- VS is Off
+abbrev pub isOff : Control → Bool
+isOff c = eqb (c .vs) off
+
+-- ---- the record as numbers, in this order: vtype, vl, vstart, vxrm, vxsat, vs
 
 abbrev pub fieldsOf : Control → List ℕ
-fieldsOf c = c .vtype ∷ c .vl ∷ c .vstart ∷ c .vxrm ∷ c .vxsat ∷ []
+fieldsOf c = c .vtype ∷ c .vl ∷ c .vstart ∷ c .vxrm ∷ c .vxsat ∷ c .vs ∷ []
 
 abbrev pub recordOf : List ℕ → Control
-recordOf l = record { vtype = getD l 0 0; vl = getD l 1 0; vstart = getD l 2 0; vxrm = getD l 3 0; vxsat = getD l 4 0 }
+recordOf l =
+    record { vtype = getD l 0 0; vl = getD l 1 0; vstart = getD l 2 0; vxrm = getD l 3 0; vxsat = getD l 4 0; vs = getD l 5 0 }
 
 -- ---- setting
 
--- a setting instruction leaves vstart 0; vxrm and vxsat stay
+-- a setting instruction leaves vstart 0; vxrm, vxsat and VS stay
 abbrev pub setTo : Control → ℕ → ℕ → Control
 setTo c v vl = withVstart (withVtype c v vl) 0
 
@@ -59,6 +81,7 @@ setOf b c v Keep = cond (supportedOf b v && keepsOf b c v) (setTo c v (c .vl)) (
 unfoldable pub typedWellOf : Board → Control → Bool
 typedWellOf b c = cond (eqb (c .vtype) vill) (eqb (c .vl) 0) (supportedOf b (c .vtype) && leb (c .vl) (vlmaxOf b (c .vtype)))
 
--- answer 36 where this is false: vstart has the bits of 0 .. VLEN - 1, vxrm 0 .. 3, vxsat 0 .. 1
+-- answer 36 where this is false: vstart has the bits of 0 .. VLEN - 1, vxrm 0 .. 3, vxsat 0 .. 1, VS 0 .. 3
 unfoldable pub possibleOf : Board → Control → Bool
-possibleOf b c = typedWellOf b c && (ltb (c .vstart) (8 * b .vlenb) && (leb (c .vxrm) 3 && leb (c .vxsat) 1))
+possibleOf b c =
+    typedWellOf b c && (ltb (c .vstart) (8 * b .vlenb) && (leb (c .vxrm) 3 && (leb (c .vxsat) 1 && leb (c .vs) dirty)))

@@ -1,11 +1,11 @@
-// The control record (vtype, vl, vstart, vxrm, vxsat), and the board whose numbers its rules use.
+// The control record (vtype, vl, vstart, vxrm, vxsat, VS), and the board whose numbers its rules use.
 ghost use mathlib.Core.Path.{_≡_};
 ghost use mathlib.Core.Bool.{cond};
 ghost use Prim.Native.Nat.{min};
 ghost use Rattle.control.specs.Board.{Valid, base};
 ghost use Rattle.control.specs.Vtype.{lmul8Of, sewOf, vlmaxOf, supportedOf};
-ghost use Rattle.control.specs.Control.{reset, withVtype, withVstart, withVxrm, withVxsat, fieldsOf, recordOf};
-ghost use Rattle.control.specs.Control.{villOf, setTo, keepsOf, setOf, typedWellOf, possibleOf};
+ghost use Rattle.control.specs.Control.{reset, withVtype, withVstart, withVxrm, withVxsat, withVs, dirtied, isOff};
+ghost use Rattle.control.specs.Control.{fieldsOf, recordOf, villOf, setTo, keepsOf, setOf, typedWellOf, possibleOf};
 
 // VLENB (the bytes of a vector register) and ELEN (the bits of the largest element).
 pub struct Board {
@@ -28,13 +28,15 @@ impl Board {
     }
 }
 
-// The control record (document 01, 'The machine on the screen').
+// The control record (document 01, 'The machine on the screen'), with the status field VS of mstatus (document 02, A8): 0 Off, 1 Initial,
+// 2 Clean, 3 Dirty.
 pub struct Control {
     pub vtype: u64,
     pub vl: u64,
     pub vstart: u64,
     pub vxrm: u64,
     pub vxsat: u64,
+    pub vs: u64,
 }
 
 // What a setting instruction asks of vl: an application vector length, or to keep vl.
@@ -60,13 +62,14 @@ pub fn smaller(a: u64, b: u64) -> u64
 }
 
 impl Control {
-    // vill alone.
+    // vill, and VS Initial.
     pub const RESET: Control = Control {
         vtype: 0x8000_0000_0000_0000,
         vl: 0,
         vstart: 0,
         vxrm: 0,
         vxsat: 0,
+        vs: 1,
     };
 
     // The same, for callers whose contracts name it.
@@ -115,17 +118,47 @@ impl Control {
         next
     }
 
-    // ---- the record as numbers
-
-    // vtype, vl, vstart, vxrm, vxsat.
-    pub fn fields(self) -> [u64; 5]
-        ensures { λ r. ⌜ r ≡ fieldsOf self ⌝ }
+    // Another VS.
+    pub fn with_vs(self, vs: u64) -> Control
+        ensures { λ r. ⌜ r ≡ withVs self vs ⌝ }
     {
-        [self.vtype, self.vl, self.vstart, self.vxrm, self.vxsat]
+        let mut next = self;
+        next.vs = vs;
+        next
     }
 
-    // The record of five numbers in this order.
-    pub fn of_fields(fields: [u64; 5]) -> Control
+    // VS Dirty.
+    pub fn dirtied(self) -> Control
+        ensures { λ r. ⌜ r ≡ dirtied self ⌝ }
+    {
+        self.with_vs(3)
+    }
+
+    // Whether VS is Off.
+    pub fn is_off(self) -> bool
+        ensures { λ r. ⌜ r ≡ isOff self ⌝ }
+    {
+        self.vs == 0
+    }
+
+    // ---- the record as numbers
+
+    // vtype, vl, vstart, vxrm, vxsat, vs.
+    pub fn fields(self) -> [u64; 6]
+        ensures { λ r. ⌜ r ≡ fieldsOf self ⌝ }
+    {
+        [
+            self.vtype,
+            self.vl,
+            self.vstart,
+            self.vxrm,
+            self.vxsat,
+            self.vs,
+        ]
+    }
+
+    // The record of six numbers in this order.
+    pub fn of_fields(fields: [u64; 6]) -> Control
         ensures { λ r. ⌜ r ≡ recordOf fields ⌝ }
     {
         Control {
@@ -134,6 +167,7 @@ impl Control {
             vstart: fields[2],
             vxrm: fields[3],
             vxsat: fields[4],
+            vs: fields[5],
         }
     }
 
@@ -232,5 +266,6 @@ impl Control {
             & (self.vstart < 8 * board.vlenb)
             & (self.vxrm <= 3)
             & (self.vxsat <= 1)
+            & (self.vs <= 3)
     }
 }

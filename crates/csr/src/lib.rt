@@ -29,6 +29,12 @@ pub fn read_on(board: Board, control: Control, csr: u64) -> CsrRead
             value: 0,
         };
     }
+    if control.is_off() {
+        return CsrRead {
+            answer: Answer::Illegal,
+            value: 0,
+        };
+    }
     let value = match csr {
         0x008 => control.vstart,
         0x009 => control.vxsat,
@@ -55,13 +61,19 @@ pub fn write_on(board: Board, control: Control, csr: u64, value: u64) -> CsrWrit
     requires { ⌜ Valid board ⌝ }
     ensures { λ r. ⌜ r ≡ writtenOf board control csr value ⌝ }
 {
-    let mut next = control;
     if !control.possible(board) {
         return CsrWrite {
             answer: Answer::BadControl,
-            control: next,
+            control,
         };
     }
+    if control.is_off() {
+        return CsrWrite {
+            answer: Answer::Illegal,
+            control,
+        };
+    }
+    let mut next = control.dirtied();
     match csr {
         0x008 => {
             next.vstart = value % (8 * board.vlenb);
@@ -79,7 +91,7 @@ pub fn write_on(board: Board, control: Control, csr: u64, value: u64) -> CsrWrit
         _ => {
             return CsrWrite {
                 answer: Answer::Illegal,
-                control: next,
+                control,
             };
         }
     }

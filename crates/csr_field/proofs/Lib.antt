@@ -2,3 +2,4 @@ pub mod ChangeLaws
 pub mod Arms
 pub mod Spelled
 pub mod Walks
+pub mod Lending

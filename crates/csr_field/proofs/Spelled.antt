@@ -13,8 +13,11 @@ use denote.Enum.Laws as EL
 use Rattle.answer.specs.declared.Answer.{Answer}
 use Rattle.answer.proofs.Answer as N
 use Rattle.answer.proofs.Answer.Laws as N′
+use Rattle.control.specs.declared.Board.{Board}
 use Rattle.control.specs.declared.Control.{Control}
 use Rattle.control.specs.Control.{fieldsOf}
+use Rattle.control.proofs.Board as B
+use Rattle.control.proofs.Board.Laws as B′
 use Rattle.control.proofs.Control as T
 use Rattle.control.proofs.Control.Laws as T′
 
@@ -23,6 +26,12 @@ val = SL.val T.the-type T′.the-laws
 
 abbrev pub vals : Control → List Val
 vals c = val c ∷ []
+
+abbrev pub board-val : Board → Val
+board-val = SL.val B.the-type B′.the-laws
+
+abbrev pub board-vals : Board → List Val
+board-vals b = board-val b ∷ []
 
 abbrev pub answer-val : Answer → Val
 answer-val = EL.val N.the-type N′.the-laws
@@ -62,12 +71,26 @@ fit-set (x ∷ l) (suc j) y f h = (f .0, fit-set l j y (f .1) h)
 fit : (c : Control) → Is T.the-row c (vals c) → Fit (fieldsOf c)
 fit c i =
     let o = SL.owed T.the-type T′.the-laws c (vals c) i in
-    (o .0 .1, (o .1 .0 .1, (o .1 .1 .0 .1, (o .1 .1 .1 .0 .1, (o .1 .1 .1 .1 .0 .1, tt)))))
+    (o .0 .1, (o .1 .0 .1, (o .1 .1 .0 .1, (o .1 .1 .1 .0 .1, (o .1 .1 .1 .1 .0 .1, (o .1 .1 .1 .1 .1 .0 .1, tt))))))
 
 is : (c : Control) → Fit (fieldsOf c) → Is T.the-row c (vals c)
 is c f =
-    SL.owes T.the-type T′.the-laws c
-    ((refl, f .0), ((refl, f .1 .0), ((refl, f .1 .1 .0), ((refl, f .1 .1 .1 .0), ((refl, f .1 .1 .1 .1 .0), tt)))))
+    SL.owes T.the-type T′.the-laws c (
+      (refl, f .0),
+      (
+        (refl, f .1 .0),
+        (
+          (refl, f .1 .1 .0),
+          (
+            (refl, f .1 .1 .1 .0),
+            (
+              (refl, f .1 .1 .1 .1 .0),
+              ((refl, f .1 .1 .1 .1 .1 .0), tt),
+            ),
+          ),
+        ),
+      ),
+    )
 
 -- a record whose numbers are c's with y at j
 pub is-set : (c c′ : Control) (j y : ℕ) → set (fieldsOf c) j y ≡ fieldsOf c′ → y < 2 ^ 64 → Is T.the-row c (vals c)

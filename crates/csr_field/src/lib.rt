@@ -1,13 +1,14 @@
-// The write by CSR number on a lent control record: the written field is changed in it, no other.
+// The write by CSR number on a lent control record: the written field and VS are changed in it, no other.
 ghost use mathlib.Core.Path.{_≡_};
-ghost use Rattle.control.specs.Board.{base};
+ghost use Rattle.control.specs.Board.{Valid, base};
 ghost use Rattle.csr.specs.Csr.{writtenOf};
 ghost use Rattle.csr_field.specs.Change.{after, changeOf};
 use answer::Answer;
+use control::Board;
 use control::Control;
 use csr::CsrWrite;
 
-// What a write stores.
+// What a write stores beside VS.
 pub enum Change {
     Nothing,
     Vstart(u64),
@@ -36,13 +37,14 @@ fn change_of(csr: u64, next: Control) -> Change
 }
 
 // What a write comes to, by the write of a record by value.
-fn field_write_of(control: Control, csr: u64, value: u64) -> FieldWrite
+fn field_write_of(board: Board, control: Control, csr: u64, value: u64) -> FieldWrite
+    requires { ⌜ Valid board ⌝ }
     ensures { λ r. ⌜
-        (r .answer ≡ writtenOf base control csr value .answer)
-        × (after (r .change) control ≡ writtenOf base control csr value .control)
+        (r .answer ≡ writtenOf board control csr value .answer)
+        × (after (r .change) control ≡ writtenOf board control csr value .control)
         ⌝ }
 {
-    let written = csr::write(control, csr, value);
+    let written = csr::write_on(board, control, csr, value);
     let answer = written.answer;
     let next = written.control;
     let change = match answer {
@@ -52,35 +54,64 @@ fn field_write_of(control: Control, csr: u64, value: u64) -> FieldWrite
     FieldWrite { answer, change }
 }
 
-// The write: the record is lent, and one field of it is stored to (0x00F: two).
+// The write on a board: the record is lent, and one field of it is stored to (0x00F: two), and VS.
+pub fn write_on(board: Board, control: &mut Control, csr: u64, value: u64) -> Answer
+    requires { ⌜ Valid board ⌝ }
+    ensures { λ r. ⌜
+        (r ≡ writtenOf board (now (control .entry)) csr value .answer)
+        × (now (control .exit) ≡ writtenOf board (now (control .entry)) csr value .control)
+        ⌝ }
+{
+    let field_write = field_write_of(board, *control, csr, value);
+    match field_write.change {
+        Change::Nothing => {}
+        Change::Vstart(x) => {
+            control.vstart = x;
+            control.vs = 3;
+        }
+        Change::Vxsat(x) => {
+            control.vxsat = x;
+            control.vs = 3;
+        }
+        Change::Vxrm(x) => {
+            control.vxrm = x;
+            control.vs = 3;
+        }
+        Change::Vcsr(x, y) => {
+            control.vxrm = x;
+            control.vxsat = y;
+            control.vs = 3;
+        }
+    }
+    field_write.answer
+}
+
+// The same for a caller that has the record by value: it is lent to `write_on` and handed back.
+pub fn written_on(board: Board, control: Control, csr: u64, value: u64) -> CsrWrite
+    requires { ⌜ Valid board ⌝ }
+    ensures { λ r. ⌜ r ≡ writtenOf board control csr value ⌝ }
+{
+    let mut record = control;
+    let answer = write_on(board, &mut record, csr, value);
+    CsrWrite {
+        answer,
+        control: record,
+    }
+}
+
+// The write on the board of document 01.
 pub fn write(control: &mut Control, csr: u64, value: u64) -> Answer
     ensures { λ r. ⌜
         (r ≡ writtenOf base (now (control .entry)) csr value .answer)
         × (now (control .exit) ≡ writtenOf base (now (control .entry)) csr value .control)
         ⌝ }
 {
-    let field_write = field_write_of(*control, csr, value);
-    match field_write.change {
-        Change::Nothing => {}
-        Change::Vstart(x) => control.vstart = x,
-        Change::Vxsat(x) => control.vxsat = x,
-        Change::Vxrm(x) => control.vxrm = x,
-        Change::Vcsr(x, y) => {
-            control.vxrm = x;
-            control.vxsat = y;
-        }
-    }
-    field_write.answer
+    write_on(Board::base(), control, csr, value)
 }
 
-// The same for a caller that has the record by value: it is lent to `write` and handed back.
+// The same for a caller that has the record by value.
 pub fn written(control: Control, csr: u64, value: u64) -> CsrWrite
     ensures { λ r. ⌜ r ≡ writtenOf base control csr value ⌝ }
 {
-    let mut record = control;
-    let answer = write(&mut record, csr, value);
-    CsrWrite {
-        answer,
-        control: record,
-    }
+    written_on(Board::base(), control, csr, value)
 }

@@ -11,10 +11,11 @@ use borrow.Author.Tests.{lt-ltb, le-ltb}
 use mir.Syntax.{w64}
 use mir.Val.{Fits}
 use Rattle.laws.proofs.Apart.{both-left, both-right}
+use Rattle.answer.specs.declared.Answer.{Answer}
 use Rattle.answer.specs.declared.Answer.the-variants.{Finished, Paused}
 use Rattle.control.specs.declared.Board.{Board}
 use Rattle.control.specs.declared.Control.{Control}
-use Rattle.control.specs.Control.{withVstart, withVxsat}
+use Rattle.control.specs.Control.{withVstart, withVxsat, dirtied}
 use Rattle.control.proofs.Laws.{possible-apart}
 use Rattle.layout.specs.Layout.{byteSize}
 use Rattle.layout.proofs.BytesLaws.{Bytes}
@@ -61,6 +62,16 @@ check-granted (write l) h = refl
 abbrev besides : Control → ℕ → ℕ → Control
 besides c vstart vxsat = withVxsat (withVstart c vstart) vxsat
 
+-- the control record that a turn leaves
+abbrev leaving : Control → ℕ → ℕ → Control
+leaving c vstart vxsat = dirtied (besides c vstart vxsat)
+
+pub ended-is : (answer : Answer) (passed vstart vxsat : ℕ) (place : FaultPlace) (c started saturated last : Control)
+    → started ≡ withVstart c vstart → saturated ≡ withVxsat started vxsat → last ≡ dirtied saturated
+    → _≡_ {A = Turned} (record { answer = answer; passed = passed; place = place; control = last })
+    (record { answer = answer; passed = passed; place = place; control = leaving c vstart vxsat })
+ended-is answer passed vstart vxsat place c started saturated last p q r = rw (r, q, p)
+
 -- an element that is passed leaves the state that the code does
 applied : (b : Board) (p : Plan) (f : Effect Fault (List Write)) (s : Core) → stateAfter (b .vlenb) f s ≡ apply (semanticsOf b p) f s
 applied b p inactive s = refl
@@ -82,16 +93,16 @@ stopped remaining passed c vxsat = record {
   answer = cond (ltb passed remaining) Paused Finished;
   passed = passed;
   place = nowhere;
-  control = besides c (cond (ltb passed remaining) (c .vstart + passed) 0) vxsat;
+  control = leaving c (cond (ltb passed remaining) (c .vstart + passed) 0) vxsat;
 }
 
 module _ (remaining passed vxsat : ℕ) (c : Control) (place : FaultPlace) (r : Turned) (p : place ≡ nowhere) where
   pub stops-paused : passed < remaining
-      → r ≡ record { answer = Paused; passed = passed; place = place; control = besides c (c .vstart + passed) vxsat }
+      → r ≡ record { answer = Paused; passed = passed; place = place; control = leaving c (c .vstart + passed) vxsat }
       → r ≡ stopped remaining passed c vxsat
   stops-paused h q = q ∙ rw (p, lt-ltb passed remaining h)
 
-  pub stops-finished : remaining ≤ passed → r ≡ record { answer = Finished; passed = passed; place = place; control = besides c 0 vxsat }
+  pub stops-finished : remaining ≤ passed → r ≡ record { answer = Finished; passed = passed; place = place; control = leaving c 0 vxsat }
       → r ≡ stopped remaining passed c vxsat
   stops-finished h q = q ∙ rw (p, le-ltb passed remaining h)
 
@@ -202,7 +213,7 @@ module _ (b : Board) (e : Elementwise) (registers₀ scalars memory₀ rights : 
       the-effect = effectOf b rights here e (c .vstart + k)
 
       pub trap-left : (remaining most : ℕ) (check : AccessCheck) (x : Fault) (registers′ memory′ : List ℕ) (r : Turned)
-          → r ≡ record { answer = x .answer; passed = k; place = x .place; control = besides c (c .vstart + k) vxsat }
+          → r ≡ record { answer = x .answer; passed = k; place = x .place; control = leaving c (c .vstart + k) vxsat }
           → remaining ≡ e .end - c .vstart → most ≡ min allowance remaining → k < most
           → ((y : List ℕ) (d : Control) → Did (b .vlenb) (effectOf b rights (coreAt registers memory y d) e (c .vstart + k))
           (coreAt registers memory y d) check (coreAt registers′ memory′ y d)) → check ≡ Faulted x

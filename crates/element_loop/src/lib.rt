@@ -6,7 +6,7 @@ ghost use lib.Dec.{ltb};
 ghost use mir.Syntax.{w64};
 ghost use mir.Val.{Fits};
 ghost use Rattle.answer.specs.declared.Answer.the-variants.{Finished, Paused};
-ghost use Rattle.control.specs.Control.{withVstart, withVxsat};
+ghost use Rattle.control.specs.Control.{withVstart, withVxsat, dirtied};
 ghost use Rattle.access.specs.Access.{nowhere};
 ghost use Rattle.plan.specs.declared.Action.the-variants as Act;
 ghost use Rattle.plan.specs.declared.Plan.the-variants as P;
@@ -25,7 +25,7 @@ use plan::Compute;
 use plan::Elementwise;
 use plan::Transfer;
 
-// What a turn gives that leaves the control record with another vstart and vxsat.
+// What a turn gives that leaves the control record with another vstart and vxsat: VS is Dirty, also where nothing was passed.
 fn ended(
     answer: Answer,
     passed: u64,
@@ -35,9 +35,9 @@ fn ended(
     vxsat: u64,
 ) -> Turned
     ensures { λ r. ⌜
-        r ≡ record { answer = answer; passed = passed; place = place; control = withVxsat (withVstart c vstart) vxsat } ⌝ }
+        r ≡ record { answer = answer; passed = passed; place = place; control = dirtied (withVxsat (withVstart c vstart) vxsat) } ⌝ }
 {
-    let control = c.with_vstart(vstart).with_vxsat(vxsat);
+    let control = c.with_vstart(vstart).with_vxsat(vxsat).dirtied();
     Turned {
         answer,
         passed,
@@ -53,7 +53,7 @@ fn trapped(fault: Fault, passed: u64, c: Control, vstart: u64, vxsat: u64) -> Tu
           answer = fault .answer;
           passed = passed;
           place = fault .place;
-          control = withVxsat (withVstart c vstart) vxsat;
+          control = dirtied (withVxsat (withVstart c vstart) vxsat);
         } ⌝ }
 {
     let answer = fault.answer;
@@ -82,7 +82,7 @@ fn stopped(remaining: u64, passed: u64, c: Control, vxsat: u64) -> Turned
           answer = cond (ltb passed remaining) Paused Finished;
           passed = passed;
           place = nowhere;
-          control = withVxsat (withVstart c (cond (ltb passed remaining) (c .vstart + passed) 0)) vxsat;
+          control = dirtied (withVxsat (withVstart c (cond (ltb passed remaining) (c .vstart + passed) 0)) vxsat);
         } ⌝ }
 {
     let place = FaultPlace::nowhere();

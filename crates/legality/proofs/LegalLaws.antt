@@ -4,11 +4,12 @@ use mathlib.Core.Path.{_≡_, refl, _∙_, subst}
 use mathlib.Core.Bool.{Bool, true, false, not, _&&_, _||_}
 use lib.Dec.{leb, eqb}
 use borrow.Author.Tests.{not-true, not-false}
-use Rattle.laws.proofs.Apart.{both-left}
+use Rattle.laws.proofs.Apart.{both-left, both-right}
 use Rattle.laws.proofs.Chain.{case}
 use Rattle.operation.specs.Shape.{largestSew}
 use Rattle.control.specs.declared.Board.{Board}
 use Rattle.control.specs.declared.Control.{Control}
+use Rattle.control.specs.Control.{isOff}
 use Rattle.decode.specs.declared.Setting.{Setting}
 use Rattle.decode.specs.declared.MaskInstruction.{MaskInstruction}
 use Rattle.group.specs.declared.Group.{Group}
@@ -65,23 +66,37 @@ module _ (b : Board) (c : Control) where
   pub kind-by : (p v : Plan) (r : Bool) → p ≡ v → r ≡ kindLegal b c v → r ≡ kindLegal b c p
   kind-by p v r e h = case (kindLegal b c) p v r e h
 
-  pub legal-not : (p : Plan) (kind : Bool) → kind ≡ kindLegal b c p → not kind ≡ true → false ≡ legalOf b c p
+  pub legal-off : (p : Plan) (off : Bool) → off ≡ isOff c → off ≡ true → false ≡ legalOf b c p
   unfolding legalOf
-  legal-not p kind h n = rw (← h, not-true kind n)
+  legal-off p off v t = rw (← v, t)
 
-  pub legal-is : (p : Plan) (s : Sources) (kind fit : Bool) → kind ≡ kindLegal b c p → not kind ≡ false → listed s ≡ sourcesOf p
-      → fit ≡ sourcesFit (listed s) → fit ≡ legalOf b c p
+  pub legal-not : (p : Plan) (off kind : Bool) → off ≡ isOff c → off ≡ false → kind ≡ kindLegal b c p → not kind ≡ true
+      → false ≡ legalOf b c p
   unfolding legalOf
-  legal-is p s kind fit h n e k = rw (← h, not-false kind n, k, e)
+  legal-not p off kind v t h n = rw (← v, t, ← h, not-true kind n)
+
+  pub legal-is : (p : Plan) (s : Sources) (off kind fit : Bool) → off ≡ isOff c → off ≡ false → kind ≡ kindLegal b c p → not kind ≡ false
+      → listed s ≡ sourcesOf p → fit ≡ sourcesFit (listed s) → fit ≡ legalOf b c p
+  unfolding legalOf
+  legal-is p s off kind fit v t h n e k = rw (← v, t, ← h, not-false kind n, k, e)
+
+  -- of a plan that is legal: VS is not Off, and every other rule
+  pub on-of-legal : (p : Plan) → legalOf b c p ≡ true → not (isOff c) ≡ true
+  unfolding legalOf
+  on-of-legal p h = both-left (not (isOff c)) (kindLegal b c p && sourcesFit (sourcesOf p)) h
+
+  pub rules-of-legal : (p : Plan) → legalOf b c p ≡ true → (kindLegal b c p && sourcesFit (sourcesOf p)) ≡ true
+  unfolding legalOf
+  rules-of-legal p h = both-right (not (isOff c)) (kindLegal b c p && sourcesFit (sourcesOf p)) h
 
   -- what the plan's kind asks, of a plan that is legal
   pub elements-of-legal : (e : Elementwise) → legalOf b c (P.Elements e) ≡ true → elementsLegal b c e ≡ true
-  unfolding legalOf kindLegal
-  elements-of-legal e h = both-left (elementsLegal b c e) (sourcesFit (sourcesOf (P.Elements e))) h
+  unfolding kindLegal
+  elements-of-legal e h = both-left (elementsLegal b c e) (sourcesFit (sourcesOf (P.Elements e))) (rules-of-legal (P.Elements e) h)
 
   pub one-turn-of-legal : (t : OneTurn) → legalOf b c (P.OneTurn t) ≡ true → oneTurnLegal b c t ≡ true
-  unfolding legalOf kindLegal
-  one-turn-of-legal t h = both-left (oneTurnLegal b c t) (sourcesFit (sourcesOf (P.OneTurn t))) h
+  unfolding kindLegal
+  one-turn-of-legal t h = both-left (oneTurnLegal b c t) (sourcesFit (sourcesOf (P.OneTurn t))) (rules-of-legal (P.OneTurn t) h)
 
   pub checked-legal : (p q : Plan) (t : Bool) → p ≡ q → t ≡ legalOf b c p → t ≡ true → p ≡ checkedOf b c q
   checked-legal p q t e h k = e ∙ rw (← e, ← h, k)

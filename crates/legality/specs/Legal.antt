@@ -1,4 +1,4 @@
--- Whether a plan is legal (sections 6.2, 6.3, 8.8 and 16; document 01, 'Words, groups and elements'; document 02, A1 and A5).
+-- Whether a plan is legal (sections 4.2, 6.2, 6.3, 8.8 and 16; document 01, 'Words, groups and elements'; document 02, A1, A5 and A8).
 use Prim.Native.Nat.{ℕ, _*_, _/_}
 use mathlib.Core.Bool.{Bool, true, false, not, _&&_, _||_, cond}
 use mathlib.Core.List.{List, [], _∷_}
@@ -7,6 +7,7 @@ use Rattle.operation.specs.Shape.{largestSew}
 use Rattle.control.specs.declared.Board.{Board}
 use Rattle.control.specs.declared.Control.{Control}
 use Rattle.control.specs.Vtype.{vill, sewOf}
+use Rattle.control.specs.Control.{isOff}
 use Rattle.decode.specs.declared.MaskOp.{MaskOp}
 use Rattle.decode.specs.declared.MaskOp.the-variants.{Vcpop, Vfirst, Vmsbf, Vmsof, Vmsif}
 use Rattle.decode.specs.declared.MaskInstruction.{MaskInstruction}
@@ -103,9 +104,10 @@ unfoldable pub sourcesFit : List Group → Bool
 sourcesFit [] = true
 sourcesFit (s ∷ others) = mayShareEach s others && sourcesFit others
 
--- "decided with the other word checks" (A5)
+-- VS Off "makes every vector word illegal", "before every other word check" (A8). The rule of the sources is "decided with the other word
+-- checks" (A5)
 unfoldable pub legalOf : Board → Control → Plan → Bool
-legalOf b c p = kindLegal b c p && sourcesFit (sourcesOf p)
+legalOf b c p = not (isOff c) && (kindLegal b c p && sourcesFit (sourcesOf p))
 
 -- for the contract of an inner function, not to be believed: the plan where it is legal, and `Illegal` otherwise
 abbrev pub checkedOf : Board → Control → Plan → Plan

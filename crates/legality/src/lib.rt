@@ -190,6 +190,9 @@ fn legal(board: Board, control: Control, plan: Plan) -> bool
     requires { ⌜ Valid board × PlanFits plan ⌝ }
     ensures { λ r. ⌜ r ≡ legalOf board control plan ⌝ }
 {
+    if control.is_off() {
+        return false;
+    }
     if !kind_legal(board, control, plan) {
         return false;
     }

@@ -19,7 +19,7 @@ use Rattle.control.specs.declared.Control.{Control}
 use Rattle.control.specs.declared.Avl.{Avl}
 use Rattle.control.specs.declared.Avl.the-variants.{To, Keep}
 use Rattle.control.specs.Board.{Valid}
-use Rattle.control.specs.Control.{withVstart, withVxsat, setOf, keepsOf}
+use Rattle.control.specs.Control.{dirty, withVstart, withVxsat, withVs, setOf, keepsOf}
 use Rattle.control.specs.Vtype.{supportedOf}
 use Rattle.control.proofs.Laws.{possible-apart}
 use Rattle.decode.specs.declared.MaskOp.{MaskOp}
@@ -51,18 +51,20 @@ use Rattle.plan.specs.Plan.{shapedOf, byMode, planOf}
 use Rattle.legality.specs.Legal.{legalOf}
 use Rattle.turn_theory.specs.Turn.{Effect, inactive, fault, write, finished, paused, trapped, rejected, Semantics, Point, TurnEnd, Turn}
 use Rattle.turn_theory.specs.Turn.{turn, turns, Opening, NoneFinishes, finalRights, uncutRun}
-use Rattle.turn_theory.specs.Claims.{Lawful}
+use Rattle.turn_theory.specs.Claims.{changed, changedAfter, Lawful}
 use Rattle.turn_theory.proofs.Laws.{turn-rejected, turn-cases, turn-keeps, unfinished-keeps, uncut, monotone}
-use Rattle.machine.specs.State.{State, Outcome, withRights, Core, coreOf, stateOf}
+use Rattle.turn_theory.proofs.Changes.{passes-by}
+use Rattle.machine.specs.State.{State, Outcome, withRights, Core, coreOf, stateOf, withControl}
 use Rattle.machine.specs.Effect.{Write, activeOf, toRegisters, toMemory, putOf, ifGranted, actingOf, effectOf}
 use Rattle.machine.specs.OneTurn.{typeFrom, avlFrom, settingResult, maskResult, oneTurnResult}
 use Rattle.machine.specs.Machine.{endOf, effectAt, resultAt, refusalAt, orIllegal, rejectionAt, Opened, semanticsOf, answerOf}
-use Rattle.machine.specs.Machine.{ranOf, outcomeOf, planTurn, planAt, turnOf}
+use Rattle.machine.specs.Machine.{vsAfter, ranOf, outcomeOf, planTurn, planAt, turnOf}
 use Rattle.machine.specs.Demands.{isTrap, changesNothing, untouched, Demand1, Demand3, Counts, Next, turnsOf, lastRights, Between}
 use Rattle.machine.specs.Demands.{Proceeds}
 use Rattle.machine.proofs.PlanFacts.{plan-sound}
 use Rattle.machine.proofs.EffectLaws.{all-keep}
 use Rattle.machine.proofs.Lawful.{opened-refl, lawful}
+use Rattle.machine.proofs.Settled.{settled, status-unseen, marked-settled}
 
 -- ---- a fault's answer is a trap, and a rejection's answer one that changes nothing
 
@@ -151,14 +153,14 @@ module _ (b : Board) (p : Plan) where
   J = semanticsOf b p
 
   -- the turn and the point of the theory of turns that rights and an allowance, and a state, make
-  abbrev turnWith : List ℕ → ℕ → Turn J
+  abbrev pub turnWith : List ℕ → ℕ → Turn J
   turnWith r n = record { rights = r; allowance = n }
 
-  abbrev pointOf : State → Point J
+  abbrev pub pointOf : State → Point J
   pointOf s = record { state = coreOf s; vstart = s .control .vstart }
 
   -- what holds of a rejection, a trap, a pause and a finish holds of a turn's outcome
-  answer-cases : (t : Turn J) (q : Point J) (P : TurnEnd J → Type 0)
+  pub answer-cases : (t : Turn J) (q : Point J) (P : TurnEnd J → Type 0)
       → ((a : Answer) → changesNothing a ≡ true → P (record { ending = rejected a; passed = 0; after = q }))
       → ((x : Fault) (k : ℕ) (c : Core) → trapOnly (x .answer) ≡ true
       → P (record { ending = trapped x; passed = k; after = record { state = c; vstart = q .vstart + k } }))
@@ -284,31 +286,32 @@ result-vstart b (P.OneTurn (O.Setting t)) s h = set-vstart b (s .control) (typeF
 result-vstart b (P.OneTurn (O.Mask m)) s h = mask-vstart (b .vlenb) (s .control .vl) m s (m .op) h
 result-vstart b (P.Elements e) s h = h
 
--- ---- the plan goes by neither vstart nor vxsat, so that it is the same in each turn
+-- ---- the plan goes by none of vstart, vxsat and VS, so that it is the same in each turn
 
-abbrev besides : Control → ℕ → ℕ → Control
-besides c v q = withVxsat (withVstart c v) q
+abbrev besides : Control → ℕ → ℕ → ℕ → Control
+besides c v q w = withVs (withVxsat (withVstart c v) q) w
 
-mode-besides : (b : Board) (x : List ℕ) (c : Control) (a : Access) (v q : ℕ) (m : Mode) → byMode b x (besides c v q) a m ≡ byMode b x c a m
+mode-besides : (b : Board) (x : List ℕ) (c : Control) (a : Access) (v q w : ℕ) (m : Mode)
+    → byMode b x (besides c v q w) a m ≡ byMode b x c a m
 unfolding byMode
-mode-besides b x c a v q M.UnitStride = refl
-mode-besides b x c a v q (M.Strided r) = refl
-mode-besides b x c a v q (M.Indexed r) = refl
-mode-besides b x c a v q M.MaskBytes = refl
-mode-besides b x c a v q (M.Whole n) = refl
+mode-besides b x c a v q w M.UnitStride = refl
+mode-besides b x c a v q w (M.Strided r) = refl
+mode-besides b x c a v q w (M.Indexed r) = refl
+mode-besides b x c a v q w M.MaskBytes = refl
+mode-besides b x c a v q w (M.Whole n) = refl
 
-plan-besides : (b : Board) (x : List ℕ) (c : Control) (v q : ℕ) (i : Instruction) → planOf b x (besides c v q) i ≡ planOf b x c i
+plan-besides : (b : Board) (x : List ℕ) (c : Control) (v q w : ℕ) (i : Instruction) → planOf b x (besides c v q w) i ≡ planOf b x c i
 unfolding planOf shapedOf
-plan-besides b x c v q I.Illegal = refl
-plan-besides b x c v q (I.Setting t) = refl
-plan-besides b x c v q (I.Mask m) = refl
-plan-besides b x c v q (I.Arithmetic a) = refl
-plan-besides b x c v q (I.Memory a) = ap P.Elements (mode-besides b x c a v q (a .mode))
+plan-besides b x c v q w I.Illegal = refl
+plan-besides b x c v q w (I.Setting t) = refl
+plan-besides b x c v q w (I.Mask m) = refl
+plan-besides b x c v q w (I.Arithmetic a) = refl
+plan-besides b x c v q w (I.Memory a) = ap P.Elements (mode-besides b x c a v q w (a .mode))
 
 put-plan : (b : Board) (i : Instruction) (p : Plan) (w : Write) (s : Core) → planOf b (s .scalars) (s .control) i ≡ p
     → planOf b (putOf (b .vlenb) w s .scalars) (putOf (b .vlenb) w s .control) i ≡ p
 unfolding putOf
-put-plan b i p (toRegisters g k x) s h = plan-besides b (s .scalars) (s .control) (s .control .vstart) _ i ∙ h
+put-plan b i p (toRegisters g k x) s h = plan-besides b (s .scalars) (s .control) (s .control .vstart) _ (s .control .vs) i ∙ h
 put-plan b i p (toMemory a n x) s h = h
 
 -- ---- a list of turns of a word whose plan is p
@@ -318,33 +321,51 @@ module _ (b : Board) (p : Plan) where
   abbrev following : ℕ → State → List ℕ → State
   following n s r = withRights r (planTurn b p n s .after)
 
-  point-left : (r r′ : List ℕ) (q : Point (J b p)) → q .state .control .vstart ≡ 0
-      → pointOf b p (withRights r′ (stateOf r (q .state) (q .vstart))) ≡ q
-  point-left r r′ q h = λ j. record {
-    state = record {
-      registers = q .state .registers;
-      scalars = q .state .scalars;
-      memory = q .state .memory;
-      control = withVstart (q .state .control) (sym h j);
-    };
-    vstart = q .vstart;
+  -- the point of a state with a VS in use as Dirty, which is how a turn leaves it, and a turn from there
+  abbrev settledPoint : State → Point (J b p)
+  settledPoint s = changed (J b p) settled (pointOf b p s)
+
+  abbrev ranSettled : ℕ → State → TurnEnd (J b p)
+  ranSettled n s = turn (J b p) (turnWith b p (s .rights) n) (settledPoint s)
+
+  ran-settled : (n : ℕ) (s : State) → ranSettled n s ≡ changedAfter (J b p) settled (ranOf b p n s)
+  ran-settled n s =
+      passes-by (J b p) settled (turnWith b p (s .rights) n) (pointOf b p s) (status-unseen b p (coreOf s) (s .control .vstart))
+
+  ran-ending : (n : ℕ) (s : State) → ranSettled n s .ending ≡ ranOf b p n s .ending
+  ran-ending n s = ap (λ (o : TurnEnd (J b p)). o .ending) (ran-settled n s)
+
+  -- a state's vstart is that of the point, and the record's 0
+  core-left : (r r′ : List ℕ) (c : Core) (v w : ℕ) → c .control .vstart ≡ 0
+      → coreOf (withRights r′ (stateOf r c v w)) ≡ withControl (withVs (c .control) w) c
+  core-left r r′ c v w h = λ j. record {
+    registers = c .registers;
+    scalars = c .scalars;
+    memory = c .memory;
+    control = withVs (withVstart (c .control) (sym h j)) w;
   }
 
-  following-point : (n : ℕ) (s : State) (r : List ℕ) → pointOf b p (following n s r) ≡ ranOf b p n s .after
-  following-point n s r = point-left (s .rights) r (ranOf b p n s .after)
-      (turn-keeps (J b p) (λ c. c .control .vstart ≡ 0) (all-keep (b .vlenb) _ (put-vstart b)) (result-vstart b p)
-      (turnWith b p (s .rights) n)
-      (pointOf b p s) refl)
+  following-point : (n : ℕ) (s : State) (r : List ℕ) → settledPoint (following n s r) ≡ ranSettled n s .after
+  following-point n s r =
+      let o : TurnEnd (J b p) = ranOf b p n s in
+      let at : Core → Point (J b p) = λ c. record { state = c; vstart = o .after .vstart } in
+      let w : ℕ = vsAfter (o .ending) (o .after .state .control .vs) in
+      let v : o .after .state .control .vstart ≡ 0 =
+      turn-keeps (J b p) (λ c. c .control .vstart ≡ 0) (all-keep (b .vlenb) _ (put-vstart b)) (result-vstart b p)
+      (turnWith b p (s .rights) n) (pointOf b p s) refl in
+      ap (λ (c : Core). at (settled c)) (core-left (s .rights) r (o .after .state) (o .after .vstart) w v)
+      ∙ ap at (marked-settled b p (turnWith b p (s .rights) n) (pointOf b p s))
+      ∙ sym (ap (λ (e : TurnEnd (J b p)). e .after) (ran-settled n s))
 
   following-plan : (word n : ℕ) (s : State) (r : List ℕ) → planAt b word s ≡ p → (ranOf b p n s .ending ≡ finished → ⊥)
       → planAt b word (following n s r) ≡ p
   following-plan word n s r e u =
       let q : Point (J b p) = ranOf b p n s .after in
-      plan-besides b (q .state .scalars) (q .state .control) (q .vstart) (q .state .control .vxsat) (decodeOf word)
+      plan-besides b (q .state .scalars) (q .state .control) (q .vstart) (q .state .control .vxsat) _ (decodeOf word)
       ∙ unfinished-keeps (J b p) (λ c. planOf b (c .scalars) (c .control) (decodeOf word) ≡ p)
       (all-keep (b .vlenb) _ (put-plan b (decodeOf word) p))
       (turnWith b p (s .rights) n) (pointOf b p s) u
-      (plan-besides b (s .scalars) (s .control) 0 (s .control .vxsat) (decodeOf word) ∙ e)
+      (plan-besides b (s .scalars) (s .control) 0 (s .control .vxsat) (s .control .vs) (decodeOf word) ∙ e)
 
   -- the turns after the first
   abbrev later : List Next → List (Turn (J b p))
@@ -357,12 +378,35 @@ module _ (b : Board) (p : Plan) where
 
   -- a first turn of n from s, and then the turns us
   abbrev ranTurns : State → ℕ → List Next → TurnEnd (J b p)
-  ranTurns s n us = turns (J b p) (turnWith b p (s .rights) n) (later us) (pointOf b p s)
+  ranTurns s n us = turns (J b p) (turnWith b p (s .rights) n) (later us) (settledPoint s)
 
-  outcome-finished : (r : List ℕ) (o : TurnEnd (J b p)) → o .ending ≡ finished
-      → outcomeOf b p r o
-      ≡ record { answer = Finished; passed = o .passed; place = nowhere; after = stateOf r (o .after .state) (o .after .vstart) }
+  -- the outcome of a turn that finishes
+  abbrev finishing : List ℕ → TurnEnd (J b p) → Outcome
+  finishing r o = record {
+    answer = Finished;
+    passed = o .passed;
+    place = nowhere;
+    after = stateOf r (o .after .state) (o .after .vstart) dirty;
+  }
+
+  outcome-finished : (r : List ℕ) (o : TurnEnd (J b p)) → o .ending ≡ finished → outcomeOf b p r o ≡ finishing r o
   outcome-finished r o e = rw e
+
+  answer-finished : (r : List ℕ) (o : TurnEnd (J b p)) → o .ending ≡ finished
+      → outcomeOf b p r o ≡ record { answer = Finished; passed = o .passed; place = nowhere; after = outcomeOf b p r o .after }
+  answer-finished r o e = rw e
+
+  -- an outcome is that of a run: its answer always, and all of it where the run finishes
+  record Same (r : List ℕ) (o : Outcome) (e : TurnEnd (J b p)) : Type 0 where
+    answers : o .answer ≡ answerOf (e .ending)
+    finishes : e .ending ≡ finished → o ≡ finishing r e
+
+  turn-same : (n : ℕ) (s : State) → Same (s .rights) (planTurn b p n s) (ranSettled n s)
+  turn-same n s = record {
+    answers = ap answerOf (sym (ran-ending n s));
+    finishes = λ f. outcome-finished (s .rights) (ranOf b p n s) (sym (ran-ending n s) ∙ f)
+        ∙ sym (ap (finishing (s .rights)) (ran-settled n s));
+  }
 
 opens : (r r′ : List ℕ) (t : Bool) → (r′ ≡ r) ⊎ ((t ≡ true) × Opened r r′) → Opened r r′
 opens r r′ t (inl e) = rw e (opened-refl r)
@@ -401,24 +445,38 @@ module _ (b : Board) (word : ℕ) where
             subst (λ (o : Outcome). Proceeds b word (withRights (u .rights) (o .after)) (u .allowance) us) (turn-is p n s e) (h .1 .1 .1);
       }
 
-  turns-are : (p : Plan) (s : State) (n : ℕ) (us : List Next) → planAt b word s ≡ p → Proceeds b word s n us
-      → turnsOf b word s n us ≡ outcomeOf b p (lastRights (s .rights) us) (ranTurns b p s n us)
+  turns-same : (p : Plan) (s : State) (n : ℕ) (us : List Next) → planAt b word s ≡ p → Proceeds b word s n us
+      → Same b p (lastRights (s .rights) us) (turnsOf b word s n us) (ranTurns b p s n us)
   unfolding turnsOf turns
-  turns-are p s n [] e h = turn-is p n s e
-  turns-are p s n (u ∷ us) e h =
+  turns-same p s n [] e h = subst (λ (o : Outcome). Same b p (s .rights) o (ranSettled b p n s)) (sym (turn-is p n s e)) (turn-same b p n s)
+  turns-same p s n (u ∷ us) e h =
       let g = goes p n s u us e h in
-      ap (λ (o : Outcome). joined o (turnsOf b word (withRights (u .rights) (o .after)) (u .allowance) us)) (turn-is p n s e)
-      ∙ ap (joined (planTurn b p n s))
-      (turns-are p (following b p n s (u .rights)) (u .allowance) us (g .next) (g .rest)
-      ∙ ap (λ z. outcomeOf b p (lastRights (u .rights) us) (turns (J b p) (turnWith b p (u .rights) (u .allowance)) (later b p us) z))
-      (following-point b p n s (u .rights)))
+      let first : TurnEnd (J b p) = ranSettled b p n s in
+      let rest : Point (J b p) → TurnEnd (J b p) = turns (J b p) (turnWith b p (u .rights) (u .allowance)) (later b p us) in
+      let r : List ℕ = lastRights (u .rights) us in
+      let x : Outcome = turnsOf b word (following b p n s (u .rights)) (u .allowance) us in
+      let y : Same b p r x (rest (first .after)) =
+      subst (λ z. Same b p r x (rest z)) (following-point b p n s (u .rights))
+      (turns-same p (following b p n s (u .rights)) (u .allowance) us (g .next) (g .rest)) in
+      let k : planTurn b p n s .passed ≡ first .passed = sym (ap (λ (o : TurnEnd (J b p)). o .passed) (ran-settled b p n s)) in
+      let i : turnsOf b word s n (u ∷ us) ≡ joined (planTurn b p n s) x =
+      ap (λ (o : Outcome). joined o (turnsOf b word (withRights (u .rights) (o .after)) (u .allowance) us)) (turn-is p n s e) in
+      record {
+        answers = ap (λ (o : Outcome). o .answer) i ∙ y .answers;
+        finishes = λ f. i ∙ ap (joined (planTurn b p n s)) (y .finishes f)
+            ∙ ap (λ (m : ℕ). finishing b p r (record {
+              ending = rest (first .after) .ending;
+              passed = m + rest (first .after) .passed;
+              after = rest (first .after) .after;
+            })) k;
+      }
 
   proceeds-unfinished : (p : Plan) (s : State) (n : ℕ) (us : List Next) → planAt b word s ≡ p → Proceeds b word s n us
-      → NoneFinishes (J b p) (turnWith b p (s .rights) n) (later b p us) (pointOf b p s)
+      → NoneFinishes (J b p) (turnWith b p (s .rights) n) (later b p us) (settledPoint b p s)
   proceeds-unfinished p s n [] e h = tt
   proceeds-unfinished p s n (u ∷ us) e h =
       let g = goes p n s u us e h in (
-        g .unfinished,
+        (λ f. g .unfinished (sym (ran-ending b p n s) ∙ f)),
         subst (NoneFinishes (J b p) (turnWith b p (u .rights) (u .allowance)) (later b p us)) (following-point b p n s (u .rights))
             (proceeds-unfinished p (following b p n s (u .rights)) (u .allowance) us (g .next) (g .rest)),
       )
@@ -461,14 +519,16 @@ module _ (b : Board) (w : Valid b) (word : ℕ) where
   uncut-turns n s us h f y =
       let p : Plan = planAt b word s in
       let t : Turn (J b p) = turnWith b p (s .rights) n in
-      let are = turns-are b word p s n us refl h in
+      let r : List ℕ = lastRights (s .rights) us in
+      let same = turns-same b word p s n us refl h in
       let e : ranTurns b p s n us .ending ≡ finished =
-      turns-finished b p t (later b p us) (pointOf b p s) (sym (ap (λ (o : Outcome). o .answer) are) ∙ f) in
-      sym (are
-      ∙ ap (outcomeOf b p (lastRights (s .rights) us))
-      (uncut (J b p) (lawful-at s y) t (later b p us) (pointOf b p s) (proceeds-opening b word p s n us refl h)
+      turns-finished b p t (later b p us) (settledPoint b p s) (sym (same .answers) ∙ f) in
+      let one : ranTurns b p s n us ≡ uncutRun (J b p) r (settledPoint b p s) =
+      uncut (J b p) (lawful-at s y) t (later b p us) (settledPoint b p s) (proceeds-opening b word p s n us refl h)
       (proceeds-unfinished b word p s n us refl h) e
-      ∙ ap (λ r. uncutRun (J b p) r (pointOf b p s)) (later-rights b p (s .rights) n us)))
+      ∙ ap (λ r. uncutRun (J b p) r (settledPoint b p s)) (later-rights b p (s .rights) n us) in
+      turn-same b p (2 ^ 32 - 1) (withRights r s) .finishes (sym (ap (λ (o : TurnEnd (J b p)). o .ending) one) ∙ e)
+      ∙ sym (same .finishes e ∙ ap (finishing b p r) one)
 
   uncut-any : (n : ℕ) (s : State) (us : List Next) → Proceeds b word s n us → turnsOf b word s n us .answer ≡ Finished
       → turnOf b word (2 ^ 32 - 1) (withRights (lastRights (s .rights) us) s) ≡ turnsOf b word s n us
@@ -494,7 +554,7 @@ module _ (b : Board) (w : Valid b) (word : ℕ) where
       go Accepted y k =
           let e : ranOf b p n s .ending ≡ finished = turn-finished b p (turnWith b p (s .rights) n) (pointOf b p s) f in
           ap (outcomeOf b p r) (monotone (J b p) (lawful-at s y) (turnWith b p (s .rights) n) (turnWith b p r m) (pointOf b p s) o l e)
-          ∙ outcome-finished b p r (ranOf b p n s) e
+          ∙ answer-finished b p r (ranOf b p n s) e
       go (Refused a) y (refuses k) =
           absurd (apart refusalOnly a Finished k refl (sym (ap (λ (z : Outcome). z .answer) (turn-refused b p n s a y)) ∙ f))
 

@@ -16,7 +16,7 @@ use Rattle.answer.specs.declared.Verdict.the-variants.{Accepted, Refused}
 use Rattle.control.specs.declared.Board.{Board}
 use Rattle.control.specs.declared.Control.{Control}
 use Rattle.control.specs.Board.{Valid}
-use Rattle.control.specs.Control.{withVstart, withVxsat, typedWellOf, possibleOf}
+use Rattle.control.specs.Control.{dirty, withVstart, withVxsat, typedWellOf, possibleOf}
 use Rattle.layout.proofs.BytesLaws.{length-withBytes}
 use Rattle.layout.proofs.ElementLaws.{length-withElement}
 use Rattle.refusal.specs.Refusal.{rightsFit, refusalOf}
@@ -82,16 +82,18 @@ legal-vxsat b c sat (P.OneTurn (O.Setting t)) = refl
 legal-vxsat b c sat (P.OneTurn (O.Mask m)) = refl
 legal-vxsat b c sat (P.Elements e) = refl
 
-last-true : (p q r t : Bool) → (p && (q && (r && t))) ≡ true → (p && (q && (r && true))) ≡ true
-last-true true true true t h = refl
-last-true true true false t h = h
-last-true true false r t h = h
-last-true false q r t h = h
+fourth-true : (p q r t u : Bool) → (p && (q && (r && (t && u)))) ≡ true → (p && (q && (r && u))) ≡ true
+fourth-true true true true true u h = h
+fourth-true true true true false u h = cc
+fourth-true true true false t u h = h
+fourth-true true false r t u h = h
+fourth-true false q r t u h = h
 
 possible-saturating : (b : Board) (c : Control) (sat : Bool) → possibleOf b c ≡ true → possibleOf b (saturating sat c) ≡ true
 unfolding possibleOf typedWellOf
 possible-saturating b c false h = h
-possible-saturating b c true h = last-true (typedWellOf b c) (ltb (c .vstart) (8 * b .vlenb)) (leb (c .vxrm) 3) (leb (c .vxsat) 1) h
+possible-saturating b c true h =
+    fourth-true (typedWellOf b c) (ltb (c .vstart) (8 * b .vlenb)) (leb (c .vxrm) 3) (leb (c .vxsat) 1) (leb (c .vs) dirty) h
 
 -- with other rights and another control record that can be
 acceptable-with : (b : Board) (registers scalars memory : ℕ) (r r′ : List ℕ) (c c′ : Control) → length r′ ≡ length r → rightsFit r′ ≡ true

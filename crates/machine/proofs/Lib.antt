@@ -2,7 +2,9 @@ pub mod Geometry
 pub mod PlanFacts
 pub mod EffectLaws
 pub mod Lawful
+pub mod Settled
 pub mod Demands
 pub mod Theorems
 pub mod TwoEews
+pub mod Status
 pub mod FieldsApart

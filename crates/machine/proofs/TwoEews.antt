@@ -8,6 +8,7 @@ use Rattle.control.specs.declared.Control.{Control}
 use Rattle.plan.specs.declared.Plan.{Plan}
 use Rattle.plan.specs.Sources.{sourcesOf}
 use Rattle.legality.specs.Legal.{kindLegal, sourcesFit, legalOf}
+use Rattle.legality.proofs.LegalLaws.{rules-of-legal}
 use Rattle.legality.specs.OneEew.{ReadAtOneEew}
 use Rattle.legality.proofs.OneEew.{one-eew}
 use Rattle.turn_theory.proofs.Laws.{turn-rejected}
@@ -15,11 +16,11 @@ use Rattle.machine.specs.Machine.{rejectionAt, semanticsOf, outcomeOf, p
 use Rattle.machine.specs.TwoEews.{TwoEews}
 
 not-legal : (b : Board) (c : Control) (p : Plan) → (ReadAtOneEew (sourcesOf p) → ⊥) → legalOf b c p ≡ false
-unfolding legalOf
 not-legal b c p h = by-test (legalOf b c p) refl where
   by-test : (l : Bool) → legalOf b c p ≡ l → l ≡ false
   by-test false e = refl
-  by-test true e = absurd (h (one-eew .fitting (sourcesOf p) (both-right (kindLegal b c p) (sourcesFit (sourcesOf p)) e)))
+  by-test true e =
+      absurd (h (one-eew .fitting (sourcesOf p) (both-right (kindLegal b c p) (sourcesFit (sourcesOf p)) (rules-of-legal b c p e))))
 
 pub two-eews : (b : Board) → TwoEews b
 unfolding turnOf rejectionAt

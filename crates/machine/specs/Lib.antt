@@ -5,4 +5,5 @@ pub mod Machine
 pub mod Call
 pub mod Demands
 pub mod TwoEews
+pub mod Status
 pub mod FieldsApart

@@ -10,7 +10,7 @@ use Rattle.answer.specs.declared.Answer.the-variants.{Finished, Paused, Illegal
 use Rattle.answer.specs.declared.Verdict.{Verdict}
 use Rattle.answer.specs.declared.Verdict.the-variants.{Accepted, Refused}
 use Rattle.control.specs.declared.Board.{Board}
-use Rattle.control.specs.Control.{withVstart}
+use Rattle.control.specs.Control.{dirty, withVstart}
 use Rattle.decode.specs.Word.{decodeOf}
 use Rattle.access.specs.declared.FaultPlace.{FaultPlace}
 use Rattle.access.specs.declared.Fault.{Fault}
@@ -96,6 +96,13 @@ faultPlaceOf paused = nowhere
 faultPlaceOf (trapped f) = f .place
 faultPlaceOf (rejected a) = nowhere
 
+-- "A turn that answers 0, 1 or 4 to 7 .. sets Dirty" (document 02, A8); beside 2 and the refusals VS is as before
+abbrev pub vsAfter : Ending Fault Answer → ℕ → ℕ
+vsAfter finished vs = dirty
+vsAfter paused vs = dirty
+vsAfter (trapped f) vs = dirty
+vsAfter (rejected a) vs = vs
+
 module _ (b : Board) (p : Plan) where
   -- one turn of a plan, from a state
   abbrev pub ranOf : ℕ → State → TurnEnd (semanticsOf b p)
@@ -108,7 +115,7 @@ module _ (b : Board) (p : Plan) where
     answer = answerOf (o .ending);
     passed = o .passed;
     place = faultPlaceOf (o .ending);
-    after = stateOf rights (o .after .state) (o .after .vstart);
+    after = stateOf rights (o .after .state) (o .after .vstart) (vsAfter (o .ending) (o .after .state .control .vs));
   }
 
   abbrev pub planTurn : ℕ → State → Outcome

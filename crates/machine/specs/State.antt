@@ -3,7 +3,7 @@ use Prim.Native.Nat.{ℕ}
 use mathlib.Core.List.{List}
 use Rattle.answer.specs.declared.Answer.{Answer}
 use Rattle.control.specs.declared.Control.{Control}
-use Rattle.control.specs.Control.{withVstart}
+use Rattle.control.specs.Control.{withVstart, withVs}
 use Rattle.access.specs.declared.FaultPlace.{FaultPlace}
 
 pub record State : Type 0 where
@@ -34,9 +34,15 @@ pub record Core : Type 0 where
 abbrev pub coreOf : State → Core
 coreOf s = record { registers = s .registers; scalars = s .scalars; memory = s .memory; control = withVstart (s .control) 0 }
 
-abbrev pub stateOf : List ℕ → Core → ℕ → State
-stateOf rights s i =
-    record { registers = s .registers; scalars = s .scalars; memory = s .memory; rights = rights; control = withVstart (s .control) i }
+-- with rights, a vstart and a VS
+abbrev pub stateOf : List ℕ → Core → ℕ → ℕ → State
+stateOf rights s i vs = record {
+  registers = s .registers;
+  scalars = s .scalars;
+  memory = s .memory;
+  rights = rights;
+  control = withVs (withVstart (s .control) i) vs;
+}
 
 -- ---- with one part changed
 

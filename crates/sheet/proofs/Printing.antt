@@ -30,6 +30,10 @@ pub three : {o s t u o1 o2 o3 : List ℕ} {a a1 a2 a3 : ℕ} → Wrote o a s o1 
     → Wrote o a (s ++ (t ++ u)) o3 a3
 three p q r = both p (both q r)
 
+pub four : {o s t u v o1 o2 o3 o4 : List ℕ} {a a1 a2 a3 a4 : ℕ} → Wrote o a s o1 a1 → Wrote o1 a1 t o2 a2 → Wrote o2 a2 u o3 a3
+    → Wrote o3 a3 v o4 a4 → Wrote o a (s ++ (t ++ (u ++ v))) o4 a4
+four p q r w = both p (three q r w)
+
 pub report-wrote : {o o1 o2 o3 : List ℕ} {a a1 a2 a3 : ℕ} (word number : ℕ) (answer : Answer) (c : Control) → number ≡ numberOf answer
     → Wrote o a (line (ascii "word=") (hex 8 word)) o1 a1
     → Wrote o1 a1 (line (ascii "answer=") (decimal number)) o2 a2

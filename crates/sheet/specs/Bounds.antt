@@ -8,12 +8,12 @@ use Rattle.sheet.specs.Run.{mostTurns}
 abbrev pub mostDigits : ℕ
 mostDigits = 20
 
--- a turn's report: vstart, vl and vtype; and all its lines, 14 + 28 + controlBound bytes at most, with some room
+-- a turn's report: vstart, vl, vtype and vs; and all its lines, 14 + 28 + controlBound bytes at most, with room for two lines more
 abbrev pub controlBound : ℕ
-controlBound = (7 + mostDigits + 1) + (3 + mostDigits + 1) + (6 + 16 + 1)
+controlBound = (7 + mostDigits + 1) + (3 + mostDigits + 1) + (6 + 16 + 1) + (3 + mostDigits + 1)
 
 abbrev pub reportBound : ℕ
-reportBound = 128
+reportBound = 200
 
 -- the reports of a word's turns, and of all words
 abbrev pub wordBound : ℕ
@@ -40,4 +40,4 @@ finalBound = scalarsLength + registersBound
 
 -- all of it: what `run` promises, and no less than wordsBound + finalBound
 abbrev pub sheetBound : ℕ
-sheetBound = 1060000
+sheetBound = 1660000

@@ -1,4 +1,4 @@
--- What a sheet prints (document 01, 'The sheet runner').
+-- What a sheet prints (document 01, 'The sheet runner'; document 02, A8).
 use Prim.Native.Nat.{ℕ, zero, suc, _+_, _*_, _%_}
 use mathlib.Core.Bool.{Bool, _&&_, cond}
 use mathlib.Core.List.{List, [], _∷_, _++_}
@@ -51,10 +51,11 @@ from s = record { text = []; answer = Finished; state = s }
 abbrev pub joined : Progress → Progress → Progress
 joined p q = record { text = p .text ++ q .text; answer = q .answer; state = q .state }
 
--- "After each turn: word, answer, vstart, vl (decimal but word), vtype (16 hex)"
+-- "After each turn: word, answer, vstart, vl (decimal but word), vtype (16 hex)"; "a vs line after each vtype line" (document 02, A8)
 abbrev pub reportControl : Control → List ℕ
 reportControl c =
-    line (ascii "vstart=") (decimal (c .vstart)) ++ (line (ascii "vl=") (decimal (c .vl)) ++ line (ascii "vtype=") (hex 16 (c .vtype)))
+    line (ascii "vstart=") (decimal (c .vstart)) ++
+    (line (ascii "vl=") (decimal (c .vl)) ++ (line (ascii "vtype=") (hex 16 (c .vtype)) ++ line (ascii "vs=") (decimal (c .vs))))
 
 unfoldable pub report : ℕ → Answer → Control → List ℕ
 report word answer c =

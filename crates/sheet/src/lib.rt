@@ -18,7 +18,7 @@ use control::Control;
 const MOST_TURNS: u64 = 129;
 
 // The length of the longest text that a sheet prints, at most.
-pub const SHEET_MAX: usize = 1060000;
+pub const SHEET_MAX: usize = 1660000;
 
 // Where the text ends, the last answer, and the control record.
 pub struct Ran {
@@ -34,7 +34,8 @@ fn report_control(out: &mut [u8], at: usize, control: Control) -> usize
 {
     let a = text::decimal_line(out, at, b"vstart=", control.vstart);
     let b = text::decimal_line(out, a, b"vl=", control.vl);
-    text::hex_line(out, b, b"vtype=", 16, control.vtype)
+    let c = text::hex_line(out, b, b"vtype=", 16, control.vtype);
+    text::decimal_line(out, c, b"vs=", control.vs)
 }
 
 // The report of a turn.

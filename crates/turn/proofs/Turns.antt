@@ -2,11 +2,11 @@
 use Prim.Native.Nat.{ℕ, _*_, _≤_}
 use mathlib.Core.Path.{_≡_, refl, sym, ap, _∙_, subst}
 use mathlib.Core.Logic.{⊎-elim}
-use mathlib.Core.Bool.{Bool, true, false, cond}
+use mathlib.Core.Bool.{Bool, true, false, not, cond, and-false}
 use mathlib.Core.List.{List}
 use mathlib.Core.Option.{none, some}
 use native.Mathlib.Omega.{arith}
-use lib.Dec.{T}
+use lib.Dec.{T, eqb}
 use lib.ListN.{length}
 use Rattle.answer.specs.declared.Answer.{Answer}
 use Rattle.answer.specs.declared.Answer.the-variants.{Finished, Illegal}
@@ -15,7 +15,7 @@ use Rattle.answer.specs.declared.Verdict.the-variants.{Accepted, Refused}
 use Rattle.control.specs.declared.Board.{Board}
 use Rattle.control.specs.declared.Control.{Control}
 use Rattle.control.specs.Board.{Valid, base}
-use Rattle.control.specs.Control.{withVstart}
+use Rattle.control.specs.Control.{off, withVstart, dirtied}
 use Rattle.control.specs.Vtype.{sewOf}
 use Rattle.control.proofs.Laws.{Possible, possible-apart, typed-well-apart, supported-sew-le}
 use Rattle.decode.specs.declared.Instruction.{Instruction}
@@ -79,7 +79,7 @@ decoded-fits word d e = rw e (Decoded.fits word)
 module _ (b : Board) (c : Control) where
   illegal-checked : (p : Plan) → checkedOf b c p ≡ P.Illegal → legalOf b c p ≡ false
   unfolding legalOf kindLegal
-  illegal-checked P.Illegal h = refl
+  illegal-checked P.Illegal h = and-false (not (eqb (c .vs) off))
   illegal-checked (P.OneTurn t) h = go (legalOf b c (P.OneTurn t)) h
     where
       go : (l : Bool) → cond l (P.OneTurn t) P.Illegal ≡ P.Illegal → l ≡ false
@@ -149,7 +149,7 @@ module _ (b : Board) (word : ℕ) (file x memory rights : List ℕ) (c : Control
         (turn-rejected (semanticsOf b w) _ _ Illegal (rejection-is w false (illegal-checked b c w (sym u ∙ e))))))
 
     pub one-turn-word : (n : ℕ) (t : OneTurn) (file′ x′ : List ℕ) (next : Control) (r : Turned) → p ≡ P.OneTurn t
-        → ((m : List ℕ) → coreAt file′ m x′ next ≡ oneTurnResult b t (coreAt file m x (withVstart c 0))) → r ≡ still Finished next
+        → ((m : List ℕ) → coreAt file′ m x′ next ≡ oneTurnResult b t (coreAt file m x (withVstart c 0))) → r ≡ still Finished (dirtied next)
         → left r file′ x′ memory rights ≡ turnOf b word n before
     one-turn-word n t file′ x′ next r e m f =
         let w : Plan = P.OneTurn t in
@@ -158,8 +158,8 @@ module _ (b : Board) (word : ℕ) (file x memory rights : List ℕ) (c : Control
         let i : next .vstart ≡ 0 = ap (λ (s : Core). s .control .vstart) z ∙ result-vstart b w (coreOf before) refl in
         planned-turn n w (left r file′ x′ memory rights) (y .0)
         (ap (λ (t : Turned). left t file′ x′ memory rights) f
-        ∙ ap (λ (v : ℕ). left (still Finished (withVstart next v)) file′ x′ memory rights) i
-        ∙ ap (λ (s : Core). left (still Finished (withVstart (s .control) 0)) (s .registers) (s .scalars) (s .memory) rights) z
+        ∙ ap (λ (v : ℕ). left (still Finished (dirtied (withVstart next v))) file′ x′ memory rights) i
+        ∙ ap (λ (s : Core). left (still Finished (dirtied (withVstart (s .control) 0))) (s .registers) (s .scalars) (s .memory) rights) z
         ∙ sym (ap (outcomeOf b w rights) (one-turn (semanticsOf b w) _ _ (rejection-is w true (y .1)) refl)))
 
     pub elements-runnable : (e : Elementwise) → Valid b → p ≡ P.Elements e → Runnable b before e

@@ -1,6 +1,8 @@
 // One turn of any word on any state.
 ghost use mathlib.Core.Path.{_≡_};
+ghost use Rattle.answer.specs.declared.Answer.the-variants.{Finished};
 ghost use Rattle.control.specs.Board.{Valid, base};
+ghost use Rattle.control.specs.Control.{dirtied};
 ghost use Rattle.access.specs.Access.{nowhere};
 ghost use Rattle.machine.specs.Call.{given, left};
 ghost use Rattle.machine.specs.Machine.{turnOf};
@@ -23,6 +25,13 @@ fn answered(answer: Answer, control: Control) -> Turned
         place,
         control,
     }
+}
+
+// What an instruction that takes one turn gives, from the record after it: VS is Dirty.
+fn finished(control: Control) -> Turned
+    ensures { λ r. ⌜ r ≡ record { answer = Finished; passed = 0; place = nowhere; control = dirtied control } ⌝ }
+{
+    answered(Answer::Finished, control.dirtied())
 }
 
 // Every word, on a board: refusals 32 to 36, then 2, then what its plan says.
@@ -55,10 +64,7 @@ fn turn_on(
     }
     match legality::checked(board, scalars, control, decode::decode(word)) {
         Plan::Illegal => answered(Answer::Illegal, control),
-        Plan::OneTurn(t) => answered(
-            Answer::Finished,
-            one_turn::perform(board, registers, scalars, control, t),
-        ),
+        Plan::OneTurn(t) => finished(one_turn::perform(board, registers, scalars, control, t)),
         Plan::Elements(e) => element_loop::elements(
             board,
             registers,

@@ -22,6 +22,28 @@ pub record Lawful (I : Semantics) : Type 0 where
   pub opens-trans : (r r′ r″ : I .Rights) → I .Opens r r′ → I .Opens r′ r″ → I .Opens r r″
   pub opens-refl : (r : I .Rights) → I .Opens r r
 
+-- ---- a change of the state between turns
+
+module _ (I : Semantics) (c : I .State → I .State) where
+  abbrev pub changed : Point I → Point I
+  changed p = record { state = c (p .state); vstart = p .vstart }
+
+  abbrev pub changedAfter : TurnEnd I → TurnEnd I
+  changedAfter o = record { ending = o .ending; passed = o .passed; after = changed (o .after) }
+
+  -- UNSEEN: what is left of the instruction at s, from element v up, neither reads what the change changes nor writes it
+  pub record Unseen (s : I .State) (v : ℕ) : Type 0 where
+    pub rejection : (r : I .Rights) → I .rejection r (c s) v ≡ I .rejection r s v
+    pub count : I .count (c s) ≡ I .count s
+    pub effect : (r : I .Rights) (k : ℕ) → v ≤ k → k < I .count s → I .effect r (c s) k ≡ I .effect r s k
+    pub put : (r : I .Rights) (k : ℕ) (w : I .Write) → v ≤ k → k < I .count s → I .effect r s k ≡ write w
+        → (x : I .State) → I .put w (c x) ≡ c (I .put w x)
+    pub finish : (x : I .State) → I .finish (c x) ≡ c (I .finish x)
+
+  -- a turn from a state with a change that it does not see is the turn from that state, and then the change
+  abbrev pub PassesBy : Type 0
+  PassesBy = (t : Turn I) (p : Point I) → Unseen (p .state) (p .vstart) → turn I t (changed p) ≡ changedAfter (turn I t p)
+
 module _ (I : Semantics) where
   -- PROGRESS: a turn of a legal word with an allowance of at least 1 passes an element, traps or finishes
   pub data Progress (o : TurnEnd I) : Type 0 where

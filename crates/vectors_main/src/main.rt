@@ -11,7 +11,7 @@ use machine::Turned;
 // ---- the state that a case starts from, but for what its lines say
 
 // Room for a case's first line, and for each part of a state twice what the machine has, so that a case can say a wrong length.
-const HEAD: usize = 129;
+const HEAD: usize = 145;
 
 const REGISTERS: usize = 1024;
 
@@ -158,7 +158,7 @@ fn print_turned(turned: Turned) {
 
 // The control record on standard output.
 fn print_control(control: Control) {
-    let mut text = [0u8; 100];
+    let mut text = [0u8; 121];
     let n = case_lines::control_text(&mut text, 0, control);
     let k = io::count(n as isize, &text);
     io::write_all(1, &text[..k]);
@@ -255,10 +255,10 @@ fn finish(
     rights: &[u8],
     memory_before: &[u8],
 ) {
-    let of_registers = capped(hexadecimal::number(head, 96, 8), registers.len());
-    let of_scalars = capped(hexadecimal::number(head, 104, 8), scalars.len());
-    let of_memory = capped(hexadecimal::number(head, 112, 8), memory.len());
-    let of_rights = capped(hexadecimal::number(head, 120, 8), rights.len());
+    let of_registers = capped(hexadecimal::number(head, 112, 8), registers.len());
+    let of_scalars = capped(hexadecimal::number(head, 120, 8), scalars.len());
+    let of_memory = capped(hexadecimal::number(head, 128, 8), memory.len());
+    let of_rights = capped(hexadecimal::number(head, 136, 8), rights.len());
     take_turn(
         head,
         &mut registers[..of_registers],

@@ -6,8 +6,5 @@ use Rattle.capi.proofs.prashunde_csr_read.Tie as tie
 pub prashunde-csr-read-spec : {M : Type 1} → statement M
 prashunde-csr-read-spec =
     tie.close
-    (tie.spec
-    (λ c κs. search needs)
-    (λ c κs. search needs)
-    (λ c κs. search needs)
-    (λ c. (search read-number, search read-value)))
+    (tie.spec (λ c κs. search needs) (λ c κs. search needs) (λ c κs. search needs)
+    (λ c. (search read-number, (search read-value, search needs))))

@@ -40,4 +40,4 @@ field-write-of-spec =
     (λ c. search needs)
     (λ c κs. search needs)
     (λ c. (search answered, search stored))
-    (λ c. (search answered, kept _ _ _ _ _ (c .before .before .write .ensures) (c .match .keys2))))
+    (λ c. (search answered, kept _ _ _ _ _ (c .before .before .write-on .ensures) (c .match .keys2))))

@@ -1,4 +1,5 @@
 use borrow.Author.Needs.{needs}
+use Rattle.element_loop.proofs.LoopLaws.{ended-is}
 use Rattle.element_loop.proofs.ended.Statement.{statement}
 use Rattle.element_loop.proofs.ended.Tie as tie
 
@@ -8,4 +9,5 @@ ended-spec =
     (tie.spec
     (λ c κs. search needs)
     (λ c κs. search needs)
-    (λ c. rw (c .with-vxsat .ensures, c .before .with-vstart .ensures)))
+    (λ c κs. search needs)
+    (λ c. search ended-is))

@@ -1,5 +1,5 @@
 use borrow.Author.Needs.{needs}
-use Rattle.sheet.proofs.Printing.{three}
+use Rattle.sheet.proofs.Printing.{four}
 use Rattle.sheet.proofs.report_control.Statement.{statement}
 use Rattle.sheet.proofs.report_control.Tie as tie
 
@@ -12,4 +12,6 @@ report-control-spec = tie.close (tie.spec
     (λ c. search needs)
     (λ c κs. search needs)
     (λ c. search needs)
-    (λ c. (search three, search needs)))
+    (λ c κs. search needs)
+    (λ c. search needs)
+    (λ c. (search four, search needs)))

@@ -61,7 +61,7 @@ turn-on-spec =
     let accepted = plan .before .before .before in
     one-turn-word _ _ _ _ _ _ _ _ _ _ (accepted .before .before .refusal-on .ensures) (accepted .enum-told .given .1)
     (plan .before .decode .ensures) (plan .checked .ensures) _ _ _ _ _ _ (taken .t .given .1) (performed .perform .ensures)
-    (c .answered3 .ensures))
+    (c .finished .ensures))
     (λ c. search needs)
     (λ c. search needs)
     (λ c. search needs)

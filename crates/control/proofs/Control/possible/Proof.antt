@@ -10,7 +10,7 @@ use Rattle.control.proofs.Control.possible.Statement.{statement}
 use Rattle.control.proofs.Control.possible.Tie as tie
 
 is-possible : (b : Board) (c : Control) (t : Bool) → t ≡ typedWellOf b c
-    → (t && ltb (c .vstart) (8 * b .vlenb) && leb (c .vxrm) 3 && leb (c .vxsat) 1) ≡ possibleOf b c
+    → (t && ltb (c .vstart) (8 * b .vlenb) && leb (c .vxrm) 3 && leb (c .vxsat) 1 && leb (c .vs) 3) ≡ possibleOf b c
 unfolding possibleOf
 is-possible b c t e = simp (e, and-assoc)
 
