@@ -129,7 +129,8 @@ pub struct Turned {
     pub address: u64,
 }
 
-/// One turn of the instruction `word`, of at most `allowance` elements; of a word that moves segments, of at most so many segments.
+/// One turn of the instruction `word`, of at most `allowance` elements; of a word that moves segments, of at most so many segments. VS is
+/// Dirty after it, unless the word is illegal or a part refused.
 pub fn turn(
     word: u32,
     allowance: u32,
@@ -166,14 +167,14 @@ pub fn turn(
     }
 }
 
-/// A CSR of the record.
+/// A CSR of the record, which stays as it is.
 pub fn csr_read(csr: u64, control: &Control) -> Result<u64, Answer> {
     let mut value = 0;
     let number = unsafe { ffi::prashunde_csr_read(csr, control.fields().as_ptr(), &mut value) };
     Answer::done(number).map(|()| value)
 }
 
-/// Writes a CSR of the record; beside any other answer than `Finished` nothing is changed.
+/// Writes a CSR of the record, and VS is Dirty; beside any other answer than `Finished` nothing is changed.
 pub fn csr_write(csr: u64, value: u64, control: &mut Control) -> Result<(), Answer> {
     let mut fields = control.fields();
     let number = unsafe { ffi::prashunde_csr_write(csr, value, fields.as_mut_ptr()) };
@@ -189,7 +190,7 @@ pub fn view(registers: &[u8], first: usize, count: usize) -> Result<&[u8], Answe
 }
 
 /// The greatest length of what a sheet prints.
-pub const SHEET_MAX: usize = 1_060_000;
+pub const SHEET_MAX: usize = 1_660_000;
 
 /// Runs a sheet and returns the length of what it prints. The text is at the front of `out` if it fits; otherwise `out` is left as it was.
 pub fn sheet_into(sheet: &[u8], out: &mut [u8]) -> usize {

@@ -1,4 +1,4 @@
--- What crosses to C: an outcome as the numbers and parts that a caller sees. The control record crosses as its five numbers.
+-- What crosses to C: an outcome as the numbers and parts that a caller sees. The control record crosses as its six numbers.
 use Prim.Native.Nat.{ℕ}
 use mathlib.Core.Path.{_≡_}
 use mathlib.Core.List.{List}

@@ -51,7 +51,7 @@ use Rattle.plan.specs.Plan.{shapedOf, byMode, planOf}
 use Rattle.legality.specs.Legal.{legalOf}
 use Rattle.turn_theory.specs.Turn.{Effect, inactive, fault, write, finished, paused, trapped, rejected, Semantics, Point, TurnEnd, Turn}
 use Rattle.turn_theory.specs.Turn.{turn, turns, Opening, NoneFinishes, finalRights, uncutRun}
-use Rattle.turn_theory.specs.Claims.{changed, changedAfter, Lawful}
+use Rattle.turn_theory.specs.Claims.{changedPoint, changedEnd, Lawful}
 use Rattle.turn_theory.proofs.Laws.{turn-rejected, turn-cases, turn-keeps, unfinished-keeps, uncut, monotone}
 use Rattle.turn_theory.proofs.Changes.{passes-by}
 use Rattle.machine.specs.State.{State, Outcome, withRights, Core, coreOf, stateOf, withControl}
@@ -323,12 +323,12 @@ module _ (b : Board) (p : Plan) where
 
   -- the point of a state with a VS in use as Dirty, which is how a turn leaves it, and a turn from there
   abbrev settledPoint : State → Point (J b p)
-  settledPoint s = changed (J b p) settled (pointOf b p s)
+  settledPoint s = changedPoint (J b p) settled (pointOf b p s)
 
   abbrev ranSettled : ℕ → State → TurnEnd (J b p)
   ranSettled n s = turn (J b p) (turnWith b p (s .rights) n) (settledPoint s)
 
-  ran-settled : (n : ℕ) (s : State) → ranSettled n s ≡ changedAfter (J b p) settled (ranOf b p n s)
+  ran-settled : (n : ℕ) (s : State) → ranSettled n s ≡ changedEnd (J b p) settled (ranOf b p n s)
   ran-settled n s =
       passes-by (J b p) settled (turnWith b p (s .rights) n) (pointOf b p s) (status-unseen b p (coreOf s) (s .control .vstart))
 

@@ -188,22 +188,22 @@ module _ (b : Board) (p : Plan) (t : Turn (semanticsOf b p)) (q : Point (semanti
   abbrev J : Semantics
   J = semanticsOf b p
 
-  abbrev passed : ℕ → Core
-  passed = passing J (t .rights) q
+  abbrev passingAt : ℕ → Core
+  passingAt = passing J (t .rights) q
 
-  passed-in-use : (k : ℕ) → rejectionAt b p (t .rights) (q .state) (q .vstart) ≡ none → InUse (passed k)
-  passed-in-use k h =
+  passing-in-use : (k : ℕ) → rejectionAt b p (t .rights) (q .state) (q .vstart) ≡ none → InUse (passingAt k)
+  passing-in-use k h =
       written-keeps J InUse (all-keep (b .vlenb) InUse (put-in-use b)) (t .rights) (q .state) (q .vstart) k (q .state)
       (legal-in-use b p (t .rights) (q .state) (q .vstart) h)
 
   pub marked-settled : settled (marked (turn J t q .ending) (turn J t q .after .state)) ≡ settled (turn J t q .after .state)
   marked-settled = turn-cases J t q (λ o. settled (marked (o .ending) (o .after .state)) ≡ settled (o .after .state)) (record {
     on-rejected = λ x e. refl;
-    on-trapped = λ x k h l f e. rw (passed-in-use k h);
-    on-paused = λ k h l e f. rw (passed-in-use k h);
+    on-trapped = λ x k h l f e. rw (passing-in-use k h);
+    on-paused = λ k h l e f. rw (passing-in-use k h);
     on-finished = λ h l.
         let n : ℕ = remaining J q in
-        rw (result-in-use b p (passed n) (passed-in-use n (h .is-legal)));
+        rw (result-in-use b p (passingAt n) (passing-in-use n (h .is-legal)));
   })
 
 -- ---- a turn from a state whose VS is in use, and from the same state with VS Dirty

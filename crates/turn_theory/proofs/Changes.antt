@@ -9,7 +9,7 @@ use lib.Dec.{ltb}
 use borrow.Author.Tests.{ltb-true}
 use Rattle.turn_theory.specs.Turn.{Effect, inactive, fault, write, Semantics, Point, apply, written, clean}
 use Rattle.turn_theory.specs.Turn.{remaining, passing, ended, legal, answered, turn}
-use Rattle.turn_theory.specs.Claims.{changed, changedAfter, Unseen, PassesBy}
+use Rattle.turn_theory.specs.Claims.{changedPoint, changedEnd, Unseen, PassesBy}
 
 module _ (I : Semantics) (c : I .State → I .State) where
   apply-unseen : (e : Effect (I .Fault) (I .Write)) → ((w : I .Write) → e ≡ write w → (x : I .State) → I .put w (c x) ≡ c (I .put w x))
@@ -38,19 +38,19 @@ module _ (I : Semantics) (c : I .State → I .State) where
       rw (h i (le-refl i) (omega arith), clean-unseen r s s′ (suc i) n (λ k a b. h k (omega arith) (omega arith)))
 
   module _ (r : I .Rights) (p : Point I) (u : Unseen I c (p .state) (p .vstart)) where
-    passing-unseen : (k : ℕ) → k ≤ remaining I p → passing I r (changed I c p) k ≡ c (passing I r p k)
+    passing-unseen : (k : ℕ) → k ≤ remaining I p → passing I r (changedPoint I c p) k ≡ c (passing I r p k)
     passing-unseen k l =
         written-unseen r (p .state) (c (p .state)) (p .vstart) k (p .state) (λ j a b. u .effect r j a (omega arith))
         (λ j w a b. u .put r j w a (omega arith))
 
     ended-unseen : (f m : Bool) (n k : ℕ) → n ≤ remaining I p → (f ≡ true → k < remaining I p)
-        → ended I f m r (changed I c p) n k ≡ changedAfter I c (ended I f m r p n k)
+        → ended I f m r (changedPoint I c p) n k ≡ changedEnd I c (ended I f m r p n k)
     ended-unseen true m n k l g =
         rw (passing-unseen k (omega (arith, g refl)), u .effect r (p .vstart + k) (omega arith) (omega (arith, g refl)))
     ended-unseen false true n k l g = rw (passing-unseen n l)
     ended-unseen false false n k l g = rw (passing-unseen n l, u .finish (passing I r p n))
 
-    legal-unseen : (n : ℕ) → n ≤ remaining I p → legal I r (changed I c p) n ≡ changedAfter I c (legal I r p n)
+    legal-unseen : (n : ℕ) → n ≤ remaining I p → legal I r (changedPoint I c p) n ≡ changedEnd I c (legal I r p n)
     legal-unseen n l =
         let k : ℕ = clean I r (p .state) (p .vstart) n in
         let e : clean I r (c (p .state)) (p .vstart) n ≡ k =
@@ -61,7 +61,7 @@ module _ (I : Semantics) (c : I .State → I .State) where
   unfolding turn
   passes-by t p u =
       rw (u .rejection (t .rights))
-      (ap (λ (m : ℕ). answered I x (changed I c p) (legal I (t .rights) (changed I c p) (min (t .allowance) m)))
+      (ap (λ (m : ℕ). answered I x (changedPoint I c p) (legal I (t .rights) (changedPoint I c p) (min (t .allowance) m)))
       (ap (λ (k : ℕ). k - p .vstart) (u .count))
       ∙ go x)
     where
@@ -72,7 +72,7 @@ module _ (I : Semantics) (c : I .State → I .State) where
       n = min (t .allowance) (remaining I p)
 
       go : (x : Option (I .Rejection))
-          → answered I x (changed I c p) (legal I (t .rights) (changed I c p) n)
-          ≡ changedAfter I c (answered I x p (legal I (t .rights) p n))
+          → answered I x (changedPoint I c p) (legal I (t .rights) (changedPoint I c p) n)
+          ≡ changedEnd I c (answered I x p (legal I (t .rights) p n))
       go (some x) = refl
       go none = legal-unseen (t .rights) p u n (omega arith)

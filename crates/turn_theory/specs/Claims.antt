@@ -25,11 +25,11 @@ pub record Lawful (I : Semantics) : Type 0 where
 -- ---- a change of the state between turns
 
 module _ (I : Semantics) (c : I .State → I .State) where
-  abbrev pub changed : Point I → Point I
-  changed p = record { state = c (p .state); vstart = p .vstart }
+  abbrev pub changedPoint : Point I → Point I
+  changedPoint p = record { state = c (p .state); vstart = p .vstart }
 
-  abbrev pub changedAfter : TurnEnd I → TurnEnd I
-  changedAfter o = record { ending = o .ending; passed = o .passed; after = changed (o .after) }
+  abbrev pub changedEnd : TurnEnd I → TurnEnd I
+  changedEnd o = record { ending = o .ending; passed = o .passed; after = changedPoint (o .after) }
 
   -- UNSEEN: what is left of the instruction at s, from element v up, neither reads what the change changes nor writes it
   pub record Unseen (s : I .State) (v : ℕ) : Type 0 where
@@ -42,7 +42,7 @@ module _ (I : Semantics) (c : I .State → I .State) where
 
   -- a turn from a state with a change that it does not see is the turn from that state, and then the change
   abbrev pub PassesBy : Type 0
-  PassesBy = (t : Turn I) (p : Point I) → Unseen (p .state) (p .vstart) → turn I t (changed p) ≡ changedAfter (turn I t p)
+  PassesBy = (t : Turn I) (p : Point I) → Unseen (p .state) (p .vstart) → turn I t (changedPoint p) ≡ changedEnd (turn I t p)
 
 module _ (I : Semantics) where
   -- PROGRESS: a turn of a legal word with an allowance of at least 1 passes an element, traps or finishes
