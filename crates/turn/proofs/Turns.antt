@@ -6,7 +6,7 @@ use mathlib.Core.Bool.{Bool, true, false, not, cond, and-false}
 use mathlib.Core.List.{List}
 use mathlib.Core.Option.{none, some}
 use native.Mathlib.Omega.{arith}
-use lib.Dec.{T, eqb}
+use lib.Dec.{T}
 use lib.ListN.{length}
 use Rattle.answer.specs.declared.Answer.{Answer}
 use Rattle.answer.specs.declared.Answer.the-variants.{Finished, Illegal}
@@ -15,7 +15,7 @@ use Rattle.answer.specs.declared.Verdict.the-variants.{Accepted, Refused}
 use Rattle.control.specs.declared.Board.{Board}
 use Rattle.control.specs.declared.Control.{Control}
 use Rattle.control.specs.Board.{Valid, base}
-use Rattle.control.specs.Control.{off, withVstart, dirtied}
+use Rattle.control.specs.Control.{withVstart, dirtied, isOff}
 use Rattle.control.specs.Vtype.{sewOf}
 use Rattle.control.proofs.Laws.{Possible, possible-apart, typed-well-apart, supported-sew-le}
 use Rattle.decode.specs.declared.Instruction.{Instruction}
@@ -79,7 +79,7 @@ decoded-fits word d e = rw e (Decoded.fits word)
 module _ (b : Board) (c : Control) where
   illegal-checked : (p : Plan) → checkedOf b c p ≡ P.Illegal → legalOf b c p ≡ false
   unfolding legalOf kindLegal
-  illegal-checked P.Illegal h = and-false (not (eqb (c .vs) off))
+  illegal-checked P.Illegal h = and-false (not (isOff c))
   illegal-checked (P.OneTurn t) h = go (legalOf b c (P.OneTurn t)) h
     where
       go : (l : Bool) → cond l (P.OneTurn t) P.Illegal ≡ P.Illegal → l ≡ false
