@@ -29,7 +29,8 @@ enum {
     PRASHUNDE_FINISHED = 0,         /* no element remains; vstart is 0 */
     PRASHUNDE_PAUSED = 1,           /* the allowance is used up; vstart is the next element */
     PRASHUNDE_ILLEGAL = 2,          /* a reserved, left out or unsupported word (also one that reads one register at two different EEWs),
-                                       or no such CSR; any word and any CSR where vs is 0 (Off); nothing is changed */
+                                       a word that the access check is not for, or no such CSR; any word and any CSR where vs is 0 (Off);
+                                       nothing is changed */
     PRASHUNDE_LOAD_MISALIGNED = 4,  /* 4 to 7: the elements before the faulting one are done, vstart is that element */
     PRASHUNDE_LOAD_ACCESS = 5,      /* past memory, or the page may not be read; an aligned element lies on one page */
     PRASHUNDE_STORE_MISALIGNED = 6,
@@ -59,6 +60,23 @@ uint64_t prashunde_turn(uint32_t word, uint32_t allowance,
                         uint8_t *memory, size_t memory_len,
                         const uint8_t *rights, size_t rights_len,
                         uint64_t control[6], uint64_t *passed, uint64_t *address);
+
+/*
+ * The access check: what prashunde_turn would answer to `word` with an allowance of UINT32_MAX, before that is called. It is for unit-stride
+ * loads and stores, plain, of masks or of whole registers; to every other word (strided and indexed ones and segments too) it answers 2.
+ * Without a mask it tests the first address, the end of memory and each page once, and no element; under a mask the elements, up to the first
+ * that would fault. Parameters as those of prashunde_turn; nothing that is lent is changed, vs neither.
+ *   element   gets the element that would fault (answers 4 to 7): vstart after the turn. Otherwise 0
+ *   pages     gets the number of pages tested: the different pages of the active elements before the faulting one, and of that one unless
+ *             it is misaligned or past memory; of all active elements that remain where none would fault. Beside 2 and 32 to 36, 0
+ * Returns 0 where the turn would finish, also where nothing remains; 4 to 7 where it would trap; 2 and 32 to 36 as the turn. Never 1.
+ */
+uint64_t prashunde_access_check(uint32_t word,
+                                const uint8_t *registers, size_t registers_len,
+                                const uint64_t *scalars, size_t scalars_len,
+                                const uint8_t *memory, size_t memory_len,
+                                const uint8_t *rights, size_t rights_len,
+                                const uint64_t control[6], uint64_t *element, uint64_t *pages);
 
 /*
  * Reads the CSR with the number `csr`: 0x008 vstart, 0x009 vxsat, 0x00A vxrm, 0x00F vcsr, 0xC20 vl, 0xC21 vtype, 0xC22 vlenb.

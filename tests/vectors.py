@@ -3,9 +3,13 @@
 
     tests/vectors.py crates/vectors_main VECTORS..
 
-writes stdin (the cases) and stdout (what the program must print) from vector files of the form
+writes stdin (the cases) and stdout (what the program must print) from vector files whose lines are turns
 
     word allowance vtype vl vstart vxrm vxsat vs INPUT.. : answer passed fault vtype vl vstart vxrm vxsat vs CHANGE..
+
+or access checks
+
+    word vtype vl vstart vxrm vxsat vs INPUT.. : answer element pages
 
 An INPUT is xN=HEX, vN=BYTES, pA-B=RIGHT, size=N (of memory), file=N, scalars=N or pages=N; a CHANGE is xN=HEX, vN=BYTES or mA=BYTES. What
 no INPUT names has the values of `scalars`, `registers` and `memory` below. The program prints each changed byte or scalar by itself, so
@@ -27,14 +31,17 @@ def cut(values, n):
 
 class Case:
     def __init__(self, line):
-        given, gives = line.split(' : ')
-        head, self.inputs = given.split()[:8], [i.split('=') for i in given.split()[8:]]
+        given, gives = (part.split() for part in line.split(' : '))
+        self.is_check = len(gives) == 3
+        if self.is_check:
+            given.insert(1, '0')
+        head, self.inputs = given[:8], [i.split('=') for i in given[8:]]
         self.word, self.allowance, vtype = (int(x, 16) for x in head[:3])
         self.control = [vtype] + [int(x) for x in head[3:]]
         lengths = {'file': 512, 'scalars': 32, 'size': 65536, 'pages': 256}
         lengths.update((k, int(v)) for k, v in self.inputs if k in lengths)
         self.lengths = [lengths[k] for k in ('file', 'scalars', 'size', 'pages')]
-        self.answer, self.changes = gives.split()[:9], [c.split('=') for c in gives.split()[9:]]
+        self.answer, self.changes = gives[:9], [c.split('=') for c in gives[9:]]
 
     def lines(self):
         yield ('c%08x%08x' % (self.word, self.allowance) + ''.join('%016x' % x for x in self.control)
@@ -50,7 +57,7 @@ class Case:
             elif '-' in key:
                 first, last = key[1:].split('-')
                 yield 'p%03x%03x%02x' % (int(first), int(last), int(value))
-        yield '.'
+        yield '?' if self.is_check else '.'
 
     def expected(self):
         file, x, mem = registers(), scalars(), memory(self.lengths[2])

@@ -1,9 +1,10 @@
-// Nanoseconds of an uncut turn through the C interface, word by word, beside a plain loop for the first word.
+// Nanoseconds of an uncut turn through the C interface, word by word, beside a plain loop for the first word; and of the access check
+// beside the turn that it is the check of.
 mod words;
-use prashunde::ffi::prashunde_turn;
+use prashunde::ffi::{prashunde_access_check, prashunde_turn};
 use std::hint::black_box;
 use std::time::Instant;
-use words::{Row, ROWS};
+use words::{Row, CHECKS, ILLEGAL, ROWS};
 
 #[derive(Clone, PartialEq)]
 struct State {
@@ -49,6 +50,25 @@ fn turn(word: u32, s: &mut State, passed: &mut u64, address: &mut u64) -> u64 {
             s.control.as_mut_ptr(),
             passed,
             address,
+        )
+    }
+}
+
+fn check(word: u32, s: &State, element: &mut u64, pages: &mut u64) -> u64 {
+    unsafe {
+        prashunde_access_check(
+            word,
+            s.registers.as_ptr(),
+            s.registers.len(),
+            s.scalars.as_ptr(),
+            s.scalars.len(),
+            s.memory.as_ptr(),
+            s.memory.len(),
+            s.rights.as_ptr(),
+            s.rights.len(),
+            s.control.as_ptr(),
+            element,
+            pages,
         )
     }
 }
@@ -164,6 +184,45 @@ fn agree() {
     }
 }
 
+// The least and the middle time of a turn of the row's word and of its check, which answer the same.
+fn turn_and_check(row: &Row) -> ((f64, f64), (f64, f64), u64) {
+    let mut s = state(row);
+    let (mut passed, mut address, mut element, mut pages) = (0, 0, 0, 0);
+    assert_eq!(check(row.word, &s, &mut element, &mut pages), row.answer, "{}", row.name);
+    assert_eq!(turn(row.word, &mut s, &mut passed, &mut address), row.answer, "{}", row.name);
+    let turned = time(|| {
+        black_box(turn(black_box(row.word), black_box(&mut s), &mut passed, &mut address));
+    });
+    let checked = time(|| {
+        black_box(check(black_box(row.word), black_box(&s), &mut element, &mut pages));
+    });
+    (turned, checked, pages)
+}
+
+// What the check takes of the turn's time, both less that of an illegal word through the same call.
+fn checks() {
+    let (no_turn, no_check, _) = turn_and_check(&ILLEGAL);
+    println!("\n| Access check | Pages | ns, least | ns, middle | the turn: ns, least | ns, middle | share of the turn, less an illegal word |");
+    println!("|---|---|---|---|---|---|---|");
+    println!(
+        "| {} | 0 | {:.0} | {:.0} | {:.0} | {:.0} | - |",
+        ILLEGAL.name, no_check.0, no_check.1, no_turn.0, no_turn.1
+    );
+    for row in &CHECKS {
+        let (turned, checked, pages) = turn_and_check(row);
+        println!(
+            "| {} | {} | {:.0} | {:.0} | {:.0} | {:.0} | {:.2} |",
+            row.name,
+            pages,
+            checked.0,
+            checked.1,
+            turned.0,
+            turned.1,
+            (checked.0 - no_check.0) / (turned.0 - no_turn.0)
+        );
+    }
+}
+
 fn main() {
     agree();
     let mut s = state(&ROWS[0]);
@@ -203,4 +262,5 @@ fn main() {
             t.0 / base.0
         );
     }
+    checks();
 }

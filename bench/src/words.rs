@@ -62,6 +62,8 @@ const fn one(name: &'static str, word: u32, answer: u64, registers: usize) -> Ro
     }
 }
 
+pub const ILLEGAL: Row = one("no word of ours (answer 2)", 0, 2, 512);
+
 pub const ROWS: [Row; 28] = [
     row("vadd.vv e8 m8", op(0x00, 1, 16, 24, OPIVV, 8), 8, 8, 128),
     row("vadd.vv e8 m8, masked", op(0x00, 0, 16, 24, OPIVV, 8), 8, 8, 128),
@@ -90,6 +92,15 @@ pub const ROWS: [Row; 28] = [
     one("vmsbf.m, vl 128", op(0x14, 1, 2, 1, OPMVV, 1), 0, 512),
     // vsetvli x12, x0, e8 m8: vl becomes 128
     one("vsetvli", 3 << 20 | 7 << 12 | 12 << 7 | 0x57, 0, 512),
-    one("no word of ours (answer 2)", 0, 2, 512),
+    ILLEGAL,
     one("511 bytes of registers (answer 32)", op(0x00, 1, 16, 24, OPIVV, 8), 32, 511),
+];
+
+// Words that the access check is for.
+pub const CHECKS: [Row; 4] = [
+    row("vle8.v m8", access(0x07, 0, 0, 0, 0, 8), 8, 8, 128),
+    row("vle64.v m8", access(0x07, 0, 0, 0, 7, 8), 64, 8, 16),
+    row("vl8re8.v", access(0x07, 7, 0, 8, 0, 8), 8, 8, 128),
+    // vm is 0
+    row("vle8.v m8, masked", access(0x07, 0, 0, 0, 0, 8) - (1 << 25), 8, 8, 128),
 ];

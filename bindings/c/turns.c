@@ -1,5 +1,5 @@
-/* A load in three turns: a closed page stops it, then an allowance of 3 pauses it; a load of segments in two; and one that is not
- * aligned. Then the other calls, what VS does, and a sheet. bindings/rust/examples/turns.rs prints the same. */
+/* A load in three turns: a closed page stops it, as the access check says before, then an allowance of 3 pauses it; a load of segments in
+ * two; and one that is not aligned. Then the other calls, what VS does, and a sheet. bindings/rust/examples/turns.rs prints the same. */
 #include "prashunde.h"
 #include <inttypes.h>
 #include <stdio.h>
@@ -17,6 +17,14 @@ static void turn(const char *name, uint32_t word, uint32_t allowance)
     for (size_t i = 1; i < 6; i++)
         printf(" %" PRIu64, control[i]);
     printf("\n");
+}
+
+static void check(const char *name, uint32_t word)
+{
+    uint64_t element, pages;
+    uint64_t answer = prashunde_access_check(word, registers, sizeof registers, scalars, 32, memory, sizeof memory, rights, sizeof rights,
+                                             control, &element, &pages);
+    printf("check %s: answer %" PRIu64 ", element %" PRIu64 ", pages %" PRIu64 "\n", name, answer, element, pages);
 }
 
 static void view(size_t first, size_t count)
@@ -62,14 +70,19 @@ int main(void)
     prashunde_reset(control);
     turn("load at reset", 0x02058407, UINT32_MAX);
     turn("vsetvli x12, x10, e8, m2", 0x00157657, 1);
+    check("vle8.v v8, (x11)", 0x02058407);
     turn("vle8.v v8, (x11)", 0x02058407, UINT32_MAX);
     rights[1] = 1;
+    check("page 1 open", 0x02058407); /* vstart is 8: what remains lies on page 1 */
     turn("page 1 open", 0x02058407, 3);
     turn("the rest", 0x02058407, UINT32_MAX);
+    check("vse8.v v8, (x11)", 0x02058427); /* page 1 may be read, not written */
     rights[1] = 0;
+    check("vlseg3e8.v v12, (x11)", 0x42058607); /* not for segments */
     turn("vlseg3e8.v v12, (x11)", 0x42058607, UINT32_MAX); /* the third field of segment 2 lies on page 1 */
     rights[1] = 1;
     turn("its other segments", 0x42058607, UINT32_MAX);
+    check("vle32.v v16, (x13)", 0x0206e807);
     turn("vle32.v v16, (x13)", 0x0206e807, UINT32_MAX); /* an element across the end of page 0 is not aligned */
     turn("vadd.vv v8, v0, v10, v0.t", 0x00050457, UINT32_MAX); /* v0 is data and mask: read at two EEWs */
     view(8, 2);
@@ -82,6 +95,7 @@ int main(void)
     turn("vle8.v v8, (x11), allowance 0", 0x02058407, 0); /* a pause sets VS Dirty too */
     control[5] = 0;
     turn("VS Off", 0x00157657, UINT32_MAX);
+    check("VS Off", 0x02058407);
     csr(0xc22, 1);
     control[5] = 4;
     turn("VS above 3", 0x02058407, UINT32_MAX);

@@ -1,6 +1,6 @@
-//! A load in three turns: a closed page stops it, then an allowance of 3 pauses it; a load of segments in two; and one that is not
-//! aligned. Then the other calls, what VS does, and a sheet. bindings/c/turns.c prints the same.
-use prashunde::{csr_read, csr_write, sheet, sheet_into, turn, view, Answer, Control};
+//! A load in three turns: a closed page stops it, as the access check says before, then an allowance of 3 pauses it; a load of segments in
+//! two; and one that is not aligned. Then the other calls, what VS does, and a sheet. bindings/c/turns.c prints the same.
+use prashunde::{access_check, csr_read, csr_write, sheet, sheet_into, turn, view, Answer, Control};
 
 struct Machine {
     registers: [u8; 512],
@@ -30,6 +30,11 @@ impl Machine {
             "{name}: answer {}, passed {}, address {}, control {:x} {} {} {} {} {}",
             t.answer as u64, t.passed, t.address, c.vtype, c.vl, c.vstart, c.vxrm, c.vxsat, c.vs
         );
+    }
+
+    fn check(&self, name: &str, word: u32) {
+        let c = access_check(word, &self.registers, &self.scalars, &self.memory, &self.rights, &self.control);
+        println!("check {name}: answer {}, element {}, pages {}", c.answer as u64, c.element, c.pages);
     }
 
     fn view(&self, first: usize, count: usize) {
@@ -76,14 +81,19 @@ fn main() {
     m.scalars[13] = 0xfe;
     m.turn("load at reset", 0x02058407, u32::MAX);
     m.turn("vsetvli x12, x10, e8, m2", 0x00157657, 1);
+    m.check("vle8.v v8, (x11)", 0x02058407);
     m.turn("vle8.v v8, (x11)", 0x02058407, u32::MAX);
     m.rights[1] = 1;
+    m.check("page 1 open", 0x02058407); // vstart is 8: what remains lies on page 1
     m.turn("page 1 open", 0x02058407, 3);
     m.turn("the rest", 0x02058407, u32::MAX);
+    m.check("vse8.v v8, (x11)", 0x02058427); // page 1 may be read, not written
     m.rights[1] = 0;
+    m.check("vlseg3e8.v v12, (x11)", 0x42058607); // not for segments
     m.turn("vlseg3e8.v v12, (x11)", 0x42058607, u32::MAX); // the third field of segment 2 lies on page 1
     m.rights[1] = 1;
     m.turn("its other segments", 0x42058607, u32::MAX);
+    m.check("vle32.v v16, (x13)", 0x0206e807);
     m.turn("vle32.v v16, (x13)", 0x0206e807, u32::MAX); // an element across the end of page 0 is not aligned
     m.turn("vadd.vv v8, v0, v10, v0.t", 0x00050457, u32::MAX); // v0 is data and mask: read at two EEWs
     m.view(8, 2);
@@ -96,6 +106,7 @@ fn main() {
     m.turn("vle8.v v8, (x11), allowance 0", 0x02058407, 0); // a pause sets VS Dirty too
     m.control.vs = 0;
     m.turn("VS Off", 0x00157657, u32::MAX);
+    m.check("VS Off", 0x02058407);
     m.csr(0xc22, 1);
     m.control.vs = 4;
     m.turn("VS above 3", 0x02058407, u32::MAX);

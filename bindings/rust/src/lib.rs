@@ -19,6 +19,20 @@ pub mod ffi {
             passed: *mut u64,
             address: *mut u64,
         ) -> u64;
+        pub fn prashunde_access_check(
+            word: u32,
+            registers: *const u8,
+            registers_len: usize,
+            scalars: *const u64,
+            scalars_len: usize,
+            memory: *const u8,
+            memory_len: usize,
+            rights: *const u8,
+            rights_len: usize,
+            control: *const u64,
+            element: *mut u64,
+            pages: *mut u64,
+        ) -> u64;
         pub fn prashunde_csr_read(csr: u64, control: *const u64, value: *mut u64) -> u64;
         pub fn prashunde_csr_write(csr: u64, value: u64, control: *mut u64) -> u64;
         pub fn prashunde_view(
@@ -40,8 +54,8 @@ pub mod ffi {
 pub enum Answer {
     Finished = 0,
     Paused = 1,
-    /// A reserved, left out or unsupported word (also one that reads one register at two different EEWs), or no such CSR; any word and any
-    /// CSR where VS is Off.
+    /// A reserved, left out or unsupported word (also one that reads one register at two different EEWs), a word that the access check is
+    /// not for, or no such CSR; any word and any CSR where VS is Off.
     Illegal = 2,
     LoadMisaligned = 4,
     LoadAccess = 5,
@@ -164,6 +178,41 @@ pub fn turn(
         answer: Answer::of(number),
         passed,
         address,
+    }
+}
+
+/// What an access check gives: the answer of the turn, the element that would fault and the number of pages tested.
+#[derive(Clone, Copy, Debug, PartialEq, Eq)]
+pub struct Checked {
+    pub answer: Answer,
+    pub element: u64,
+    pub pages: u64,
+}
+
+/// What an uncut turn of the instruction `word` would answer, where it is a unit-stride load or store (plain, of masks or of whole
+/// registers); `Illegal` for every other word. Nothing is changed.
+pub fn access_check(word: u32, registers: &[u8], scalars: &[u64], memory: &[u8], rights: &[u8], control: &Control) -> Checked {
+    let (mut element, mut pages) = (0, 0);
+    let number = unsafe {
+        ffi::prashunde_access_check(
+            word,
+            registers.as_ptr(),
+            registers.len(),
+            scalars.as_ptr(),
+            scalars.len(),
+            memory.as_ptr(),
+            memory.len(),
+            rights.as_ptr(),
+            rights.len(),
+            control.fields().as_ptr(),
+            &mut element,
+            &mut pages,
+        )
+    };
+    Checked {
+        answer: Answer::of(number),
+        element,
+        pages,
     }
 }
 

@@ -16,8 +16,8 @@ use Rattle.layout.specs.Layout.{byteSize}
 use Rattle.layout.proofs.WidthLaws.{size-elim, size-pos}
 use Rattle.answer.specs.declared.Answer.{Answer}
 use Rattle.access.specs.declared.Fault.{Fault}
-use Rattle.access.specs.declared.AccessCheck.{AccessCheck}
-use Rattle.access.specs.declared.AccessCheck.the-variants.{Granted, Faulted}
+use Rattle.access.specs.declared.AccessTest.{AccessTest}
+use Rattle.access.specs.declared.AccessTest.the-variants.{Granted, Faulted}
 use Rattle.access.specs.Access.{faultAt, pageOf, needed, misaligned, denied, accessOf, fieldAddress, orNext, fieldsAccess}
 
 -- the address is a multiple of the size
@@ -72,19 +72,19 @@ module _ (rights : List ℕ) (memory : ℕ) (store : Bool) (a n : ℕ) where
 
   -- ---- the test by its outcomes
 
-  pub not-aligned : (r : AccessCheck) (x : Answer) (t : Bool) → t ≡ eqb (a % n) 0 → not t ≡ true → x ≡ misaligned store → r ≡ faultAt x a
+  pub not-aligned : (r : AccessTest) (x : Answer) (t : Bool) → t ≡ eqb (a % n) 0 → not t ≡ true → x ≡ misaligned store → r ≡ faultAt x a
       → r ≡ accessOf rights memory store a n
   unfolding accessOf
   not-aligned r x t e f p q = rw (← e, f, ← p) q
 
   module _ (e : a % n ≡ 0) where
-    pub past-memory : (r : AccessCheck) (x : Answer) → T (byteSize n) → memory ≤ a + (n - 1) → x ≡ denied store → r ≡ faultAt x a
+    pub past-memory : (r : AccessTest) (x : Answer) → T (byteSize n) → memory ≤ a + (n - 1) → x ≡ denied store → r ≡ faultAt x a
         → r ≡ accessOf rights memory store a n
     unfolding accessOf
     past-memory r x t h p q = rw (eq-eqb (a % n) 0 e, lt-leb (a + n) memory (omega (arith, size-pos n t)), ← p) q
 
     module _ (k : ℕ) (h : a + (n - 1) < memory) (g : k ≡ needed store) where
-      pub no-right : (r : AccessCheck) (x : Answer) → getD rights (a / 256) 0 < k → x ≡ denied store → r ≡ faultAt x a
+      pub no-right : (r : AccessTest) (x : Answer) → getD rights (a / 256) 0 < k → x ≡ denied store → r ≡ faultAt x a
           → r ≡ accessOf rights memory store a n
       unfolding accessOf
       no-right r x l p q =
@@ -123,7 +123,7 @@ module _ (rights : List ℕ) (memory : ℕ) (store : Bool) (a n nf : ℕ) where
     all : suc nf - 0 ≡ suc nf
     all = omega arith
 
-  module _ (field k : ℕ) (t : Testing field k) (l : k ≤ nf) (v : AccessCheck) (p : v ≡ accessOf rights memory store field n) where
+  module _ (field k : ℕ) (t : Testing field k) (l : k ≤ nf) (v : AccessTest) (p : v ≡ accessOf rights memory store field n) where
     -- with field k before the others
     split : fieldsAccess rights memory store a n 0 (suc nf) ≡ orNext v (fieldsAccess rights memory store a n (suc k) (nf - k))
     unfolding fieldsAccess
@@ -151,16 +151,16 @@ module _ (rights : List ℕ) (memory : ℕ) (store : Bool) (a n nf : ℕ) where
 
 -- ---- fields that are granted lie inside memory
 
-pub granted-first : (v w : AccessCheck) → orNext v w ≡ Granted → v ≡ Granted
+pub granted-first : (v w : AccessTest) → orNext v w ≡ Granted → v ≡ Granted
 granted-first Granted w h = refl
 granted-first (Faulted f) w h = h
 
-pub granted-next : (v w : AccessCheck) → orNext v w ≡ Granted → w ≡ Granted
+pub granted-next : (v w : AccessTest) → orNext v w ≡ Granted → w ≡ Granted
 granted-next Granted w h = h
 granted-next (Faulted f) w h = never f h
 
 module _ (rights : List ℕ) (memory : ℕ) (store : Bool) (a n : ℕ) (m : memory ≤ 65536) where
-  field-here : (k : ℕ) (next : AccessCheck) → a + k * n < 2 ^ 64
+  field-here : (k : ℕ) (next : AccessTest) → a + k * n < 2 ^ 64
       → orNext (accessOf rights memory store (fieldAddress a n k) n) next ≡ Granted → a + k * n + n ≤ memory
   field-here k next l h =
       let here : fieldAddress a n k + n ≤ memory =
@@ -180,6 +180,6 @@ module _ (rights : List ℕ) (memory : ℕ) (store : Bool) (a n : ℕ) (m : memo
             (granted-next (accessOf rights memory store (fieldAddress a n k) n) _ h),
       )
 
-  pub segment-inside : (nf : ℕ) (v : AccessCheck) → Fits w64 a → v ≡ fieldsAccess rights memory store a n 0 (suc nf) → v ≡ Granted
+  pub segment-inside : (nf : ℕ) (v : AccessTest) → Fits w64 a → v ≡ fieldsAccess rights memory store a n 0 (suc nf) → v ≡ Granted
       → a + suc nf * n ≤ memory
   segment-inside nf v f p q = omega (arith, fields-inside 0 nf (omega (arith, f .fits)) (sym p ∙ q))

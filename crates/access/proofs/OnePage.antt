@@ -8,7 +8,7 @@ use lib.ListN.{getD}
 use lib.Dec.{T}
 use Rattle.layout.specs.Layout.{byteSize}
 use Rattle.layout.proofs.WidthLaws.{size-elim, size-pos}
-use Rattle.access.specs.declared.AccessCheck.the-variants.{Granted}
+use Rattle.access.specs.declared.AccessTest.the-variants.{Granted}
 use Rattle.access.specs.Access.{needed, accessOf}
 use Rattle.access.specs.OnePage.{OnFirstPage, Permitted, OnePage}
 use Rattle.access.proofs.AccessLaws.{facts-granted, granted-facts}

@@ -8,14 +8,14 @@ use lib.Dec.{leb, eqb}
 use Rattle.answer.specs.declared.Answer.{Answer}
 use Rattle.answer.specs.declared.Answer.the-variants.{LoadMisaligned, LoadAccess, StoreMisaligned, StoreAccess}
 use Rattle.access.specs.declared.FaultPlace.{FaultPlace}
-use Rattle.access.specs.declared.AccessCheck.{AccessCheck}
-use Rattle.access.specs.declared.AccessCheck.the-variants.{Granted, Faulted}
+use Rattle.access.specs.declared.AccessTest.{AccessTest}
+use Rattle.access.specs.declared.AccessTest.the-variants.{Granted, Faulted}
 
 -- "a fault address: the first byte of the faulting element, modulo 2^64, for 4 to 7", and 0 beside all other answers
 abbrev pub nowhere : FaultPlace
 nowhere = record { address = 0 }
 
-abbrev pub faultAt : Answer → ℕ → AccessCheck
+abbrev pub faultAt : Answer → ℕ → AccessTest
 faultAt answer a = Faulted (record { answer = answer; place = record { address = a } })
 
 -- a page has 256 bytes
@@ -35,7 +35,7 @@ denied store = cond store StoreAccess LoadAccess
 
 -- the element of n bytes at address a, by the pages' rights and the number of bytes of memory. An aligned element lies on the page of its
 -- first byte (`OnePage`)
-unfoldable pub accessOf : List ℕ → ℕ → Bool → ℕ → ℕ → AccessCheck
+unfoldable pub accessOf : List ℕ → ℕ → Bool → ℕ → ℕ → AccessTest
 accessOf rights memory store a n =
     cond (not (eqb (a % n) 0)) (faultAt (misaligned store) a)
     (cond (leb (a + n) memory && leb (needed store) (getD rights (pageOf a) 0)) Granted
@@ -48,12 +48,12 @@ abbrev pub fieldAddress : ℕ → ℕ → ℕ → ℕ
 fieldAddress a n k = (a + k * n) % 2 ^ 64
 
 -- the first test that faults decides
-abbrev pub orNext : AccessCheck → AccessCheck → AccessCheck
+abbrev pub orNext : AccessTest → AccessTest → AccessTest
 orNext Granted next = next
 orNext (Faulted f) next = Faulted f
 
 -- "Fields are checked upward before any of the segment moves" (A1): so many of them, from field k on
-unfoldable pub fieldsAccess : List ℕ → ℕ → Bool → ℕ → ℕ → ℕ → ℕ → AccessCheck
+unfoldable pub fieldsAccess : List ℕ → ℕ → Bool → ℕ → ℕ → ℕ → ℕ → AccessTest
 fieldsAccess rights memory store a n k zero = Granted
 fieldsAccess rights memory store a n k (suc others) =
     orNext (accessOf rights memory store (fieldAddress a n k) n) (fieldsAccess rights memory store a n (suc k) others)

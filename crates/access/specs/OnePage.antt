@@ -6,7 +6,7 @@ use mathlib.Core.List.{List}
 use lib.ListN.{getD}
 use lib.Dec.{T}
 use Rattle.layout.specs.Layout.{byteSize}
-use Rattle.access.specs.declared.AccessCheck.the-variants.{Granted}
+use Rattle.access.specs.declared.AccessTest.the-variants.{Granted}
 use Rattle.access.specs.Access.{pageOf, needed, accessOf}
 
 -- where the element of n bytes at address a is aligned, its byte i is on the page of its first

@@ -28,19 +28,20 @@ pub struct Fault {
 }
 
 // What the access test comes to.
-pub enum AccessCheck {
+pub enum AccessTest {
     Granted,
     Faulted(Fault),
 }
 
-fn fault_at(answer: Answer, address: u64) -> AccessCheck
+fn fault_at(answer: Answer, address: u64) -> AccessTest
     ensures { λ r. ⌜ r ≡ faultAt answer address ⌝ }
 {
     let place = FaultPlace { address };
-    AccessCheck::Faulted(Fault { answer, place })
+    AccessTest::Faulted(Fault { answer, place })
 }
 
-fn misaligned_answer(store: bool) -> Answer
+// 4 or 6.
+pub fn misaligned_answer(store: bool) -> Answer
     ensures { λ r. ⌜ r ≡ misaligned store ⌝ }
 {
     if store {
@@ -49,7 +50,8 @@ fn misaligned_answer(store: bool) -> Answer
     Answer::LoadMisaligned
 }
 
-fn denied_answer(store: bool) -> Answer
+// 5 or 7.
+pub fn denied_answer(store: bool) -> Answer
     ensures { λ r. ⌜ r ≡ denied store ⌝ }
 {
     if store {
@@ -58,14 +60,15 @@ fn denied_answer(store: bool) -> Answer
     Answer::LoadAccess
 }
 
-fn right_needed(store: bool) -> u8
+// The right that a page needs.
+pub fn right_needed(store: bool) -> u8
     ensures { λ r. ⌜ r ≡ needed store ⌝ }
 {
     if store { 2 } else { 1 }
 }
 
 // Whether the address a is a multiple of n, a power of 2.
-fn aligned(a: u64, n: u64) -> bool
+pub fn aligned(a: u64, n: u64) -> bool
     requires { ⌜ T (byteSize n) ⌝ }
     ensures { λ r. ⌜ r ≡ eqb (a % n) 0 ⌝ }
 {
@@ -73,7 +76,7 @@ fn aligned(a: u64, n: u64) -> bool
 }
 
 // The element of n bytes at address a, in a memory of so many bytes.
-pub fn access(rights: &[u8], memory: usize, store: bool, a: u64, n: u64) -> AccessCheck
+pub fn access(rights: &[u8], memory: usize, store: bool, a: u64, n: u64) -> AccessTest
     requires { ⌜ (length (now rights) ≡ 256) × ((memory ≤ 65536) × T (byteSize n)) ⌝ }
     ensures { λ r. ⌜ r ≡ accessOf (now (rights .entry)) memory store a n ⌝ }
 {
@@ -86,13 +89,13 @@ pub fn access(rights: &[u8], memory: usize, store: bool, a: u64, n: u64) -> Acce
     // below the end of memory it is one of the 256 pages, and that of every byte of the element
     let page = (a / 256) as usize;
     if last < size && right_needed(store) <= rights[page] {
-        return AccessCheck::Granted;
+        return AccessTest::Granted;
     }
     fault_at(denied_answer(store), a)
 }
 
 // The fields of a segment, each of n bytes, upward from the one at address a; nf of them follow it.
-pub fn segment(rights: &[u8], memory: usize, store: bool, a: u64, n: u64, nf: u32) -> AccessCheck
+pub fn segment(rights: &[u8], memory: usize, store: bool, a: u64, n: u64, nf: u32) -> AccessTest
     requires { ⌜ (length (now rights) ≡ 256) × ((memory ≤ 65536) × T (byteSize n)) ⌝ }
     ensures { λ r. ⌜ r ≡ fieldsAccess (now (rights .entry)) memory store a n 0 (suc nf) ⌝ }
 {
@@ -102,12 +105,12 @@ pub fn segment(rights: &[u8], memory: usize, store: bool, a: u64, n: u64, nf: u3
     while k <= last {
         let check = access(rights, memory, store, field, n);
         match check {
-            AccessCheck::Faulted(_) => return check,
-            AccessCheck::Granted => {
+            AccessTest::Faulted(_) => return check,
+            AccessTest::Granted => {
                 field = std::num::wrapping_add_u64(field, n);
                 k += 1;
             }
         }
     }
-    AccessCheck::Granted
+    AccessTest::Granted
 }

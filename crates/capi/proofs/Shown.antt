@@ -14,7 +14,9 @@ use Rattle.view.specs.View.{placeOf}
 use Rattle.machine.specs.Machine.{turnOf}
 use Rattle.machine.specs.declared.Turned.{Turned}
 use Rattle.machine.specs.Call.{given, left}
-use Rattle.capi.specs.Crossing.{Shows}
+use Rattle.unit_stride.specs.declared.Checked.{Checked}
+use Rattle.access_check.specs.AccessCheck.{accessCheckOf}
+use Rattle.capi.specs.Crossing.{Shows, Tells}
 
 pub shown :
     (word n : ℕ) (t : Turned) (r s m r′ s′ m′ p : List ℕ) (c c₀ : Control) (l : List ℕ) (a passed address : ℕ) → c ≡ c₀ →
@@ -31,6 +33,12 @@ shown word n t r s m r′ s′ m′ p c c₀ l a passed address e h f g k u = rw
   rights-are = refl;
   control-is = u;
 })
+
+pub told :
+    (word : ℕ) (t : Checked) (r s m p : List ℕ) (c c₀ : Control) (a element pages : ℕ) → c ≡ c₀ →
+    t ≡ accessCheckOf base word (given r s m p c) → a ≡ numberOf (t .answer) → element ≡ t .element → pages ≡ t .pages →
+    Tells (accessCheckOf base word (given r s m p c₀)) a element pages
+told word t r s m p c c₀ a element pages e h f g k = rw (← e, ← h) (record { answer-is = f; element-is = g; pages-are = k })
 
 module _ (fields : List ℕ) (c : Control) (e : c ≡ recordOf fields) where
   pub read-number :

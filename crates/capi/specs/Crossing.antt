@@ -5,6 +5,7 @@ use mathlib.Core.List.{List}
 use Rattle.answer.specs.Answer.{numberOf}
 use Rattle.control.specs.Control.{fieldsOf}
 use Rattle.machine.specs.State.{Outcome}
+use Rattle.unit_stride.specs.declared.Checked.{Checked}
 
 -- the caller sees an outcome: its answer's number is returned, the rest is in the lent parts
 pub record Shows (o : Outcome) (answer passed address : ℕ) (registers scalars memory rights control : List ℕ) : Type 0 where
@@ -16,3 +17,9 @@ pub record Shows (o : Outcome) (answer passed address : ℕ) (registers scalars 
   pub memory-is : memory ≡ o .after .memory
   pub rights-are : rights ≡ o .after .rights
   pub control-is : control ≡ fieldsOf (o .after .control)
+
+-- the caller sees what an access check gives: its answer's number is returned, the rest is in the lent numbers
+pub record Tells (c : Checked) (answer element pages : ℕ) : Type 0 where
+  pub answer-is : answer ≡ numberOf (c .answer)
+  pub element-is : element ≡ c .element
+  pub pages-are : pages ≡ c .pages

@@ -9,9 +9,10 @@ ghost use Rattle.csr.specs.Csr.{readOf, writtenOf};
 ghost use Rattle.view.specs.View.{placeOf};
 ghost use Rattle.machine.specs.Machine.{turnOf};
 ghost use Rattle.machine.specs.Call.{given};
+ghost use Rattle.access_check.specs.AccessCheck.{accessCheckOf};
 ghost use Rattle.sheet.specs.Run.{printed, buffered};
 ghost use Rattle.sheet.specs.Bounds.{sheetBound};
-ghost use Rattle.capi.specs.Crossing.{Shows};
+ghost use Rattle.capi.specs.Crossing.{Shows, Tells};
 use control::Control;
 
 // One turn of a word: the answer's number, and in the lent parts what the turn leaves.
@@ -51,6 +52,45 @@ pub extern "C" fn prashunde_turn(
     *control = after.fields();
     *passed = turned.passed;
     *address = place.address;
+    answer::number(answer)
+}
+
+// What an uncut turn of a unit-stride access would answer: the answer's number, the element and the number of pages tested. All that is lent
+// is as before.
+#[no_mangle]
+pub extern "C" fn prashunde_access_check(
+    word: u32,
+    registers: &[u8],
+    scalars: &[u64],
+    memory: &[u8],
+    rights: &[u8],
+    control: &[u64; 6],
+    element: &mut u64,
+    pages: &mut u64,
+) -> u64
+    ensures { λ r. ⌜
+        Tells
+        (accessCheckOf base word
+        (given (now (registers .entry)) (now (scalars .entry)) (now (memory .entry)) (now (rights .entry))
+        (recordOf (now (control .entry)))))
+        r (now (element .exit)) (now (pages .exit)) ⌝ }
+    ensures { λ _. ⌜
+        (now (registers .exit) ≡ now (registers .entry))
+        × ((now (scalars .exit) ≡ now (scalars .entry))
+        × ((now (memory .exit) ≡ now (memory .entry))
+        × ((now (rights .exit) ≡ now (rights .entry)) × (now (control .exit) ≡ now (control .entry))))) ⌝ }
+{
+    let checked = access_check::check(
+        word,
+        registers,
+        scalars,
+        memory,
+        rights,
+        Control::of_fields(*control),
+    );
+    let answer = checked.answer;
+    *element = checked.element;
+    *pages = checked.pages;
     answer::number(answer)
 }
 

@@ -1,7 +1,7 @@
 // The control record (vtype, vl, vstart, vxrm, vxsat, VS), and the board whose numbers its rules use.
 ghost use mathlib.Core.Path.{_≡_};
 ghost use mathlib.Core.Bool.{cond};
-ghost use Prim.Native.Nat.{min};
+ghost use Prim.Native.Nat.{_-_, min};
 ghost use Rattle.control.specs.Board.{Valid, base};
 ghost use Rattle.control.specs.Vtype.{lmul8Of, sewOf, vlmaxOf, supportedOf};
 ghost use Rattle.control.specs.Control.{reset, withVtype, withVstart, withVxrm, withVxsat, withVs, dirtied, isOff};
@@ -59,6 +59,13 @@ pub fn smaller(a: u64, b: u64) -> u64
     ensures { λ r. ⌜ r ≡ min a b ⌝ }
 {
     if a < b { a } else { b }
+}
+
+// a less b, and 0 where b is the larger.
+pub fn less(a: u64, b: u64) -> u64
+    ensures { λ r. ⌜ r ≡ a - b ⌝ }
+{
+    if a < b { 0 } else { a - b }
 }
 
 impl Control {

@@ -21,8 +21,8 @@ use Rattle.layout.specs.Layout.{byteSize}
 use Rattle.layout.proofs.BytesLaws.{Bytes}
 use Rattle.access.specs.declared.FaultPlace.{FaultPlace}
 use Rattle.access.specs.declared.Fault.{Fault}
-use Rattle.access.specs.declared.AccessCheck.{AccessCheck}
-use Rattle.access.specs.declared.AccessCheck.the-variants.{Granted, Faulted}
+use Rattle.access.specs.declared.AccessTest.{AccessTest}
+use Rattle.access.specs.declared.AccessTest.the-variants.{Granted, Faulted}
 use Rattle.access.specs.Access.{nowhere}
 use Rattle.plan.specs.declared.Action.the-variants as A
 use Rattle.plan.specs.declared.Compute.{Compute}
@@ -48,12 +48,12 @@ use Rattle.element_loop.proofs.Readiness.{Prepared, prepared}
 
 -- ---- checks and effects
 
-check-fault : (f : Effect Fault (List Write)) (x : Fault) → Faulted x ≡ checkOf f → f ≡ fault x
+pub check-fault : (f : Effect Fault (List Write)) (x : Fault) → Faulted x ≡ checkOf f → f ≡ fault x
 check-fault inactive x h = cc
 check-fault (fault y) x h = let p : x ≡ y = cc in rw p
 check-fault (write l) x h = cc
 
-check-granted : (f : Effect Fault (List Write)) → Granted ≡ checkOf f → faults f ≡ false
+pub check-granted : (f : Effect Fault (List Write)) → Granted ≡ checkOf f → faults f ≡ false
 check-granted inactive h = refl
 check-granted (fault y) h = cc
 check-granted (write l) h = refl
@@ -131,10 +131,10 @@ module _ (b : Board) (e : Elementwise) (registers₀ scalars memory₀ rights : 
     pub memory-length : length memory ≡ length memory₀
 
   module _ (l : Runnable b the-state e) where
-    the-facts : Facts b (P.Elements e) rights (coreNow scalars c registers₀ memory₀ (c .vxsat)) (c .vstart)
+    pub the-facts : Facts b (P.Elements e) rights (coreNow scalars c registers₀ memory₀ (c .vxsat)) (c .vstart)
     the-facts = facts b (P.Elements e) rights (coreNow scalars c registers₀ memory₀ (c .vxsat)) (c .vstart) (l .is-legal)
 
-    the-sound : PlanSound b (P.Elements e)
+    pub the-sound : PlanSound b (P.Elements e)
     the-sound =
         subst (PlanSound b) (l .plan)
         (plan-sound b scalars c (l .word) (l .valid) (possible-apart b c (the-facts .acceptable .possible)) (l .fits))
@@ -149,7 +149,7 @@ module _ (b : Board) (e : Elementwise) (registers₀ scalars memory₀ rights : 
     unfolding elementsLegal
     is-there = both-left (isThere (e .action)) _ (both-right (not (e .typed) || startable b c) _ the-legal)
 
-    next-prepared : (k : ℕ) → k < e .end → Prepared b e k
+    pub next-prepared : (k : ℕ) → k < e .end → Prepared b e k
     next-prepared k =
         prepared b scalars c (l .valid) (possible-apart b c (the-facts .acceptable .possible)) k (l .word) e (l .fits) (l .plan)
         is-there (elements-fit b c e the-legal)
@@ -212,7 +212,7 @@ module _ (b : Board) (e : Elementwise) (registers₀ scalars memory₀ rights : 
       abbrev the-effect : Effect Fault (List Write)
       the-effect = effectOf b rights here e (c .vstart + k)
 
-      pub trap-left : (remaining most : ℕ) (check : AccessCheck) (x : Fault) (registers′ memory′ : List ℕ) (r : Turned)
+      pub trap-left : (remaining most : ℕ) (check : AccessTest) (x : Fault) (registers′ memory′ : List ℕ) (r : Turned)
           → r ≡ record { answer = x .answer; passed = k; place = x .place; control = leaving c (c .vstart + k) vxsat }
           → remaining ≡ e .end - c .vstart → most ≡ min allowance remaining → k < most
           → ((y : List ℕ) (d : Control) → Did (b .vlenb) (effectOf b rights (coreAt registers memory y d) e (c .vstart + k))
@@ -268,7 +268,7 @@ module _ (b : Board) (e : Elementwise) (registers₀ scalars memory₀ rights : 
           rw q (going-more remaining most registers′ memory (cond saturates 1 vxsat) u v h (did rights memory scalars (besides c 0 vxsat))
           y m refl)
 
-      pub transferred-more : (remaining most : ℕ) (check : AccessCheck) (registers′ memory′ : List ℕ)
+      pub transferred-more : (remaining most : ℕ) (check : AccessTest) (registers′ memory′ : List ℕ)
           → remaining ≡ e .end - c .vstart → most ≡ min allowance remaining → k < most
           → ((y : List ℕ) (d : Control) → Did (b .vlenb) (effectOf b rights (coreAt registers memory y d) e (c .vstart + k))
           (coreAt registers memory y d) check (coreAt registers′ memory′ y d)) → check ≡ Granted

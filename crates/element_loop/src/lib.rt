@@ -1,7 +1,7 @@
 // The loops over the elements of one turn.
 ghost use mathlib.Core.Path.{_≡_};
 ghost use mathlib.Core.Bool.{cond};
-ghost use Prim.Native.Nat.{_+_, _-_};
+ghost use Prim.Native.Nat.{_+_};
 ghost use lib.Dec.{ltb};
 ghost use mir.Syntax.{w64};
 ghost use mir.Val.{Fits};
@@ -13,7 +13,7 @@ ghost use Rattle.plan.specs.declared.Plan.the-variants as P;
 ghost use Rattle.machine.specs.Call.{given, left};
 ghost use Rattle.machine.specs.Machine.{planTurn};
 ghost use Rattle.element_loop.specs.Runnable.{Runnable};
-use access::AccessCheck;
+use access::AccessTest;
 use access::Fault;
 use access::FaultPlace;
 use answer::Answer;
@@ -59,12 +59,6 @@ fn trapped(fault: Fault, passed: u64, c: Control, vstart: u64, vxsat: u64) -> Tu
     let answer = fault.answer;
     let place = fault.place;
     ended(answer, passed, place, c, vstart, vxsat)
-}
-
-fn less(a: u64, b: u64) -> u64
-    ensures { λ r. ⌜ r ≡ a - b ⌝ }
-{
-    if a < b { 0 } else { a - b }
 }
 
 // vxsat after an element that saturates or not.
@@ -114,7 +108,7 @@ fn computed(
         (given (now (registers .entry)) (now (scalars .entry)) (now (memory .entry)) (now (rights .entry)) control) ⌝ }
 {
     let vstart = control.vstart;
-    let remaining = less(e.end, vstart);
+    let remaining = control::less(e.end, vstart);
     let count = control::smaller(allowance, remaining);
     let mut vxsat = control.vxsat;
     let mut k: u64 = 0;
@@ -150,15 +144,15 @@ fn transferred(
         (given (now (registers .entry)) (now (scalars .entry)) (now (memory .entry)) (now (rights .entry)) control) ⌝ }
 {
     let vstart = control.vstart;
-    let remaining = less(e.end, vstart);
+    let remaining = control::less(e.end, vstart);
     let most = control::smaller(allowance, remaining);
     let vxsat = control.vxsat;
     let mut k: u64 = 0;
     while k < most {
         let i = (vstart + k) as usize;
         match execute::transfer_element(registers, memory, rights, board, e, t, i) {
-            AccessCheck::Faulted(fault) => return trapped(fault, k, control, vstart + k, vxsat),
-            AccessCheck::Granted => k += 1,
+            AccessTest::Faulted(fault) => return trapped(fault, k, control, vstart + k, vxsat),
+            AccessTest::Granted => k += 1,
         }
     }
     stopped(remaining, k, control, vxsat)

@@ -20,8 +20,8 @@ use Rattle.layout.specs.Layout.{bytesAt, withBytes, elementAt, withElement, Ins
 use Rattle.layout.proofs.BytesLaws.{length-withBytes}
 use Rattle.layout.proofs.ElementLaws.{length-withElement}
 use Rattle.access.specs.declared.Fault.{Fault}
-use Rattle.access.specs.declared.AccessCheck.{AccessCheck}
-use Rattle.access.specs.declared.AccessCheck.the-variants.{Granted, Faulted}
+use Rattle.access.specs.declared.AccessTest.{AccessTest}
+use Rattle.access.specs.declared.AccessTest.the-variants.{Granted, Faulted}
 use Rattle.access.specs.Access.{fieldAddress, fieldsAccess}
 use Rattle.plan.specs.declared.Read.{Read}
 use Rattle.plan.specs.declared.Action.{Action}
@@ -177,7 +177,7 @@ module _ (vlenb : ℕ) (file₀ memory₀ : List ℕ) (store : Bool) (g : Group)
 
 -- ---- elements
 
-module _ (vlenb : ℕ) (rights file memory file′ memory′ : List ℕ) (store : Bool) (g : Group) (n i a : ℕ) (v : AccessCheck)
+module _ (vlenb : ℕ) (rights file memory file′ memory′ : List ℕ) (store : Bool) (g : Group) (n i a : ℕ) (v : AccessTest)
     (p : v ≡ fieldsAccess rights (length memory) store a n 0 (nfields g)) (x : List ℕ) (c : Control) where
   abbrev moves : Effect Fault (List Write)
   moves = transferring vlenb rights (coreAt file memory x c) store g n i a
@@ -206,7 +206,7 @@ computed vlenb i o o′ p p′ d d′ v v′ file memory file′ x c g k r eo ep
     record { check = refl; state = rw (h, l) }
 
 -- by the address as it was worked out
-pub transfers-at : (vlenb : ℕ) (rights : List ℕ) (s s′ : Core) (t : Transfer) (g : Group) (r : AccessCheck) (a i o p : ℕ) → o ≡ p
+pub transfers-at : (vlenb : ℕ) (rights : List ℕ) (s s′ : Core) (t : Transfer) (g : Group) (r : AccessTest) (a i o p : ℕ) → o ≡ p
     → a ≡ elementAddress t i o → Did vlenb (transferring vlenb rights s (t .store) g (t .bytes) i a) s r s′
     → Did vlenb (transferring vlenb rights s (t .store) g (t .bytes) i (elementAddress t i p)) s r s′
 transfers-at vlenb rights s s′ t g r a i o p e h d = rw (h, e) at d
@@ -217,7 +217,7 @@ module _ (b : Board) (rights : List ℕ) (s : Core) (e : Elementwise) (i : ℕ) 
   unfolding effectOf
   masked-off n = let h = sym p ∙ not-true t n in record { check = rw h; state = rw h }
 
-  pub acted : {v : Action} {r : AccessCheck} {s′ : Core} → not t ≡ false → e .action ≡ v → Did (b .vlenb) (actingOf b rights s e i v) s r s′
+  pub acted : {v : Action} {r : AccessTest} {s′ : Core} → not t ≡ false → e .action ≡ v → Did (b .vlenb) (actingOf b rights s e i v) s r s′
       → Did (b .vlenb) (effectOf b rights s e i) s r s′
   unfolding effectOf
   acted {r = r} {s′} n q d =

@@ -18,8 +18,8 @@ use Rattle.plan.specs.declared.Elementwise.{Elementwise}
 use Rattle.turn_theory.specs.Turn.{Effect, inactive, fault, write}
 use Rattle.machine.specs.State.{Core}
 use Rattle.access.specs.declared.Fault.{Fault}
-use Rattle.access.specs.declared.AccessCheck.{AccessCheck}
-use Rattle.access.specs.declared.AccessCheck.the-variants.{Granted, Faulted}
+use Rattle.access.specs.declared.AccessTest.{AccessTest}
+use Rattle.access.specs.declared.AccessTest.the-variants.{Granted, Faulted}
 use Rattle.machine.specs.Effect.{Write, putAll, valueOf}
 
 -- an operand's element i lies inside a register file of so many bytes
@@ -57,7 +57,7 @@ ActionFits vlenb file e i (A.Compute k) = OperandsFit vlenb file e k i
 ActionFits vlenb file e i (A.Transfer t) = T (byteSize (t .bytes))
 
 -- whether an effect is a fault, as the access test says it, and the state that it leaves
-abbrev pub checkOf : Effect Fault (List Write) → AccessCheck
+abbrev pub checkOf : Effect Fault (List Write) → AccessTest
 checkOf inactive = Granted
 checkOf (fault f) = Faulted f
 checkOf (write l) = Granted
@@ -68,6 +68,6 @@ stateAfter vlenb (fault f) s = s
 stateAfter vlenb (write l) s = putAll vlenb l s
 
 -- an effect was carried out in place, from the state s to the state s′
-pub record Did (vlenb : ℕ) (f : Effect Fault (List Write)) (s : Core) (r : AccessCheck) (s′ : Core) : Type 0 where
+pub record Did (vlenb : ℕ) (f : Effect Fault (List Write)) (s : Core) (r : AccessTest) (s′ : Core) : Type 0 where
   pub check : r ≡ checkOf f
   pub state : s′ ≡ stateAfter vlenb f s

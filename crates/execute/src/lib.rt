@@ -8,12 +8,12 @@ ghost use lib.Dec.{T};
 ghost use Rattle.control.specs.declared.Control.{Control};
 ghost use Rattle.layout.specs.Layout.{bytesAt, withBytes, elementAt, withElement, Inside, byteSize};
 ghost use Rattle.group.specs.Group.{nfields, spanOf};
-ghost use Rattle.access.specs.declared.AccessCheck.the-variants.{Granted};
+ghost use Rattle.access.specs.declared.AccessTest.the-variants.{Granted};
 ghost use Rattle.plan.specs.declared.Action.the-variants as Act;
 ghost use Rattle.machine.specs.Effect.{saturating, putAll, valueOf, activeOf, elementAddress};
 ghost use Rattle.machine.specs.Effect.{eachField, fieldWrite, computing, transferring, effectOf};
 ghost use Rattle.execute.specs.Step.{ReadInside, FieldsInside, Ready, OperandsFit, coreAt, Did};
-use access::AccessCheck;
+use access::AccessTest;
 use control::Board;
 use group::Group;
 use plan::Compute;
@@ -95,7 +95,7 @@ pub fn compute_element(
 // ---- loads and stores
 
 // base + i * stride + offset, modulo 2^64.
-fn address(t: Transfer, i: u64, offset: u64) -> u64
+pub fn address(t: Transfer, i: u64, offset: u64) -> u64
     ensures { λ r. ⌜ r ≡ elementAddress t i offset ⌝ }
 {
     std::num::wrapping_add_u64(
@@ -180,7 +180,7 @@ fn transfer(
     n: u64,
     i: usize,
     a: u64,
-) -> AccessCheck
+) -> AccessTest
     requires { ⌜
         FieldsInside (length (now registers)) vlenb dest i
         × ((dest .reg + spanOf dest ≤ 32)
@@ -192,8 +192,8 @@ fn transfer(
 {
     let check = access::segment(rights, memory.len(), store, a, n, dest.nf);
     match check {
-        AccessCheck::Faulted(_) => check,
-        AccessCheck::Granted => {
+        AccessTest::Faulted(_) => check,
+        AccessTest::Granted => {
             move_fields(
                 registers,
                 memory,
@@ -218,7 +218,7 @@ pub fn transfer_element(
     e: Elementwise,
     t: Transfer,
     i: usize,
-) -> AccessCheck
+) -> AccessTest
     requires { ⌜
         Ready (length (now registers)) (board .vlenb) e i
         × ((length (now rights) ≡ 256)
@@ -232,7 +232,7 @@ pub fn transfer_element(
     let vs2 = e.vs2;
     let dest = e.dest;
     if !active(registers, vlenb, e.masked, i) {
-        return AccessCheck::Granted;
+        return AccessTest::Granted;
     }
     let a = address(t, i as u64, value(registers, vlenb, vs2, i));
     transfer(

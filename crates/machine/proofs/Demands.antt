@@ -35,8 +35,8 @@ use Rattle.decode.proofs.Fields.{fits}
 use Rattle.access.specs.declared.FaultPlace.{FaultPlace}
 use Rattle.access.specs.declared.Fault.{Fault}
 use Rattle.group.specs.Group.{nfields}
-use Rattle.access.specs.declared.AccessCheck.{AccessCheck}
-use Rattle.access.specs.declared.AccessCheck.the-variants.{Granted, Faulted}
+use Rattle.access.specs.declared.AccessTest.{AccessTest}
+use Rattle.access.specs.declared.AccessTest.the-variants.{Granted, Faulted}
 use Rattle.access.specs.Access.{nowhere, accessOf, fieldAddress, orNext, fieldsAccess}
 use Rattle.refusal.specs.Refusal.{refusalOf}
 use Rattle.refusal.proofs.RefusalLaws.{accepted-facts}
@@ -79,7 +79,7 @@ data Refuses (P : Answer → Bool) : Verdict → Type 0 where
   accepts : Refuses P Accepted
   refuses : {a : Answer} → P a ≡ true → Refuses P (Refused a)
 
-data Checks (P : Answer → Bool) : AccessCheck → Type 0 where
+data Checks (P : Answer → Bool) : AccessTest → Type 0 where
   grants : Checks P Granted
   faulted : {a : Answer} {q : FaultPlace} → P a ≡ true → Checks P (Faulted (record { answer = a; place = q }))
 
@@ -112,12 +112,12 @@ Trapping inactive = Unit {0}
 Trapping (fault x) = trapOnly (x .answer) ≡ true
 Trapping (write l) = Unit {0}
 
-trapping-check : (v : AccessCheck) (l : List Write) → Checks trapOnly v → Trapping (ifGranted v (write l))
+trapping-check : (v : AccessTest) (l : List Write) → Checks trapOnly v → Trapping (ifGranted v (write l))
 trapping-check Granted l h = tt
 trapping-check (Faulted x) l (faulted h) = h
 
 -- of fields, the first that faults
-next-checks : (v w : AccessCheck) → Checks trapOnly v → Checks trapOnly w → Checks trapOnly (orNext v w)
+next-checks : (v w : AccessTest) → Checks trapOnly v → Checks trapOnly w → Checks trapOnly (orNext v w)
 next-checks Granted w h k = k
 next-checks (Faulted x) w h k = h
 
@@ -145,7 +145,7 @@ effect-traps b (P.Elements e) rights s k =
 -- ---- the outcome of a turn
 
 -- where P holds of a and not of c, the two differ
-apart : {A : Type 0} (P : A → Bool) (a c : A) → P a ≡ true → P c ≡ false → a ≡ c → ⊥
+pub apart : {A : Type 0} (P : A → Bool) (a c : A) → P a ≡ true → P c ≡ false → a ≡ c → ⊥
 apart P a c h k e = let f : P a ≡ P c = ap P e in let z : _≡_ {A = ℕ} 0 1 = cc in omega arith
 
 module _ (b : Board) (p : Plan) where

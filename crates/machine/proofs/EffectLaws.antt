@@ -12,8 +12,8 @@ use Rattle.layout.proofs.BytesLaws.{length-withBytes}
 use Rattle.group.specs.declared.Group.{Group}
 use Rattle.group.specs.Group.{nfields, fieldGroup}
 use Rattle.access.specs.declared.Fault.{Fault}
-use Rattle.access.specs.declared.AccessCheck.{AccessCheck}
-use Rattle.access.specs.declared.AccessCheck.the-variants.{Granted, Faulted}
+use Rattle.access.specs.declared.AccessTest.{AccessTest}
+use Rattle.access.specs.declared.AccessTest.the-variants.{Granted, Faulted}
 use Rattle.access.specs.Access.{pageOf, accessOf, fieldAddress, fieldsAccess}
 use Rattle.access.proofs.AccessLaws.{facts-granted, granted-facts, granted-first, granted-next}
 use Rattle.plan.specs.declared.Read.the-variants as R
@@ -42,7 +42,7 @@ write-same l m h = cc
 -- ---- access
 
 -- an access that writes does what it is to do
-granted-write : (v : AccessCheck) (e : Effect Fault (List Write)) (l : List Write) → ifGranted v e ≡ write l → e ≡ write l
+granted-write : (v : AccessTest) (e : Effect Fault (List Write)) (l : List Write) → ifGranted v e ≡ write l → e ≡ write l
 granted-write Granted e l h = h
 granted-write (Faulted f) e l h = absurd (fault≢write f l h)
 
@@ -59,7 +59,7 @@ fields-opened : (r r′ : List ℕ) (memory : ℕ) (store : Bool) (a n k others 
 unfolding fieldsAccess
 fields-opened r r′ memory store a n k zero o h = h
 fields-opened r r′ memory store a n k (suc others) o h =
-    let v : AccessCheck = accessOf r memory store (fieldAddress a n k) n in
+    let v : AccessTest = accessOf r memory store (fieldAddress a n k) n in
     rw (access-opened r r′ memory store (fieldAddress a n k) n o (granted-first v _ h))
     (fields-opened r r′ memory store a n (suc k) others o (granted-next v _ h))
 
@@ -69,9 +69,9 @@ granted-opened : (r r′ : List ℕ) (memory : ℕ) (store : Bool) (a n others :
     → ifGranted (fieldsAccess r′ memory store a n 0 others) e ≡ ifGranted (fieldsAccess r memory store a n 0 others) e
 granted-opened r r′ memory store a n others e o = go (fieldsAccess r memory store a n 0 others) refl
   where
-    go : (v : AccessCheck) → fieldsAccess r memory store a n 0 others ≡ v → faults (ifGranted v e) ≡ false
+    go : (v : AccessTest) → fieldsAccess r memory store a n 0 others ≡ v → faults (ifGranted v e) ≡ false
         → ifGranted (fieldsAccess r′ memory store a n 0 others) e ≡ ifGranted v e
-    go Granted q h = ap (λ (v : AccessCheck). ifGranted v e) (fields-opened r r′ memory store a n 0 others o q)
+    go Granted q h = ap (λ (v : AccessTest). ifGranted v e) (fields-opened r r′ memory store a n 0 others o q)
     go (Faulted f) q h = absurd (subst T h tt)
 
 -- ---- raised rights

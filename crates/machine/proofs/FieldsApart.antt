@@ -8,7 +8,7 @@ use native.Mathlib.Nat.{mod-eq-of-lt, mul-le-mul-right}
 use borrow.Author.Tests.{le-leb}
 use Rattle.group.specs.declared.Group.{Group}
 use Rattle.group.specs.Group.{registersOf, fieldGroup, spanOf, apartOf}
-use Rattle.access.specs.declared.AccessCheck.the-variants.{Granted}
+use Rattle.access.specs.declared.AccessTest.the-variants.{Granted}
 use Rattle.access.specs.Access.{fieldAddress, fieldsAccess}
 use Rattle.access.proofs.AccessLaws.{segment-inside}
 use Rattle.machine.specs.FieldsApart.{FieldsApart}

@@ -15,8 +15,8 @@ use Rattle.layout.specs.Layout.{bytesAt, withBytes, elementAt, withElement}
 use Rattle.group.specs.declared.Group.{Group}
 use Rattle.group.specs.Group.{nfields, fieldGroup}
 use Rattle.access.specs.declared.Fault.{Fault}
-use Rattle.access.specs.declared.AccessCheck.{AccessCheck}
-use Rattle.access.specs.declared.AccessCheck.the-variants.{Granted, Faulted}
+use Rattle.access.specs.declared.AccessTest.{AccessTest}
+use Rattle.access.specs.declared.AccessTest.the-variants.{Granted, Faulted}
 use Rattle.access.specs.Access.{fieldAddress, fieldsAccess}
 use Rattle.plan.specs.declared.Read.{Read}
 use Rattle.plan.specs.declared.Read.the-variants as R
@@ -63,7 +63,7 @@ abbrev pub elementAddress : Transfer → ℕ → ℕ → ℕ
 elementAddress t i offset = (t .base + i * t .stride + offset) % 2 ^ 64
 
 -- an access that is granted does what it is to do
-abbrev pub ifGranted : AccessCheck → Effect Fault (List Write) → Effect Fault (List Write)
+abbrev pub ifGranted : AccessTest → Effect Fault (List Write) → Effect Fault (List Write)
 ifGranted Granted e = e
 ifGranted (Faulted f) e = fault f
 

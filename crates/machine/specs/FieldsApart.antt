@@ -6,7 +6,7 @@ use mathlib.Core.Bool.{Bool, true}
 use mathlib.Core.List.{List}
 use Rattle.group.specs.declared.Group.{Group}
 use Rattle.group.specs.Group.{fieldGroup, apartOf}
-use Rattle.access.specs.declared.AccessCheck.the-variants.{Granted}
+use Rattle.access.specs.declared.AccessTest.the-variants.{Granted}
 use Rattle.access.specs.Access.{fieldAddress, fieldsAccess}
 
 pub record FieldsApart : Type 0 where

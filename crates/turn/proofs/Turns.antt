@@ -77,7 +77,7 @@ decoded-fits word d e = rw e (Decoded.fits word)
 -- ---- the plan that was checked: illegal, or legal and the word's own
 
 module _ (b : Board) (c : Control) where
-  illegal-checked : (p : Plan) → checkedOf b c p ≡ P.Illegal → legalOf b c p ≡ false
+  pub illegal-checked : (p : Plan) → checkedOf b c p ≡ P.Illegal → legalOf b c p ≡ false
   unfolding legalOf kindLegal
   illegal-checked P.Illegal h = and-false (not (isOff c))
   illegal-checked (P.OneTurn t) h = go (legalOf b c (P.OneTurn t)) h
@@ -101,10 +101,10 @@ module _ (b : Board) (c : Control) where
 
 -- a plan that was checked, in the arm of the match
 module _ (b : Board) (x : List ℕ) (c : Control) (d : Instruction) (p : Plan) (h : p ≡ checkedOf b c (planOf b x c d)) where
-  one-turn-planned : (t : OneTurn) → p ≡ P.OneTurn t → (planOf b x c d ≡ P.OneTurn t) × (legalOf b c (P.OneTurn t) ≡ true)
+  pub one-turn-planned : (t : OneTurn) → p ≡ P.OneTurn t → (planOf b x c d ≡ P.OneTurn t) × (legalOf b c (P.OneTurn t) ≡ true)
   one-turn-planned t e = legal-checked b c (planOf b x c d) (P.OneTurn t) (sym h ∙ e) (λ f. let z : _≡_ {A = ℕ} 0 1 = cc in omega arith)
 
-  elements-planned : (e : Elementwise) → p ≡ P.Elements e → (planOf b x c d ≡ P.Elements e) × (legalOf b c (P.Elements e) ≡ true)
+  pub elements-planned : (e : Elementwise) → p ≡ P.Elements e → (planOf b x c d ≡ P.Elements e) × (legalOf b c (P.Elements e) ≡ true)
   elements-planned e q = legal-checked b c (planOf b x c d) (P.Elements e) (sym h ∙ q) (λ f. let z : _≡_ {A = ℕ} 0 1 = cc in omega arith)
 
   pub one-turn-fits : (t : OneTurn) → Fits d → p ≡ P.OneTurn t → OneTurnFits t

@@ -168,7 +168,7 @@ module _ (I : Semantics) where
     after = record { state = I .finish (passing I r p (remaining I p)); vstart = zero };
   }
 
-  runs-done : (t : Turn I) (p : Point I) → Runs (t .rights) p → remaining I p ≤ t .allowance → turn I t p ≡ done (t .rights) p
+  pub runs-done : (t : Turn I) (p : Point I) → Runs (t .rights) p → remaining I p ≤ t .allowance → turn I t p ≡ done (t .rights) p
   unfolding turn
   runs-done t p h l =
       let n : ℕ = remaining I p in
@@ -199,7 +199,7 @@ module _ (I : Semantics) where
         → ((j : ℕ) → p .vstart ≤ j → j < p .vstart + k → faults (I .effect (t .rights) (p .state) j) ≡ false)
         → I .effect (t .rights) (p .state) (p .vstart + k) ≡ fault x
         → P (record { ending = trapped x; passed = k; after = record { state = passing I (t .rights) p k; vstart = p .vstart + k } })
-    pub on-paused : (k : ℕ) → I .rejection (t .rights) (p .state) (p .vstart) ≡ none → k ≤ remaining I p → k ≡ t .allowance
+    pub on-paused : (k : ℕ) → I .rejection (t .rights) (p .state) (p .vstart) ≡ none → k < remaining I p → k ≡ t .allowance
         → ((j : ℕ) → p .vstart ≤ j → j < p .vstart + k → faults (I .effect (t .rights) (p .state) j) ≡ false)
         → P (record { ending = paused; passed = k; after = record { state = passing I (t .rights) p k; vstart = p .vstart + k } })
     pub on-finished : Runs (t .rights) p → remaining I p ≤ t .allowance → P (done (t .rights) p)
@@ -218,7 +218,7 @@ module _ (I : Semantics) where
         go (fault x) q f = w .on-trapped x k h (omega (arith, ltb-true))
             (λ j a b. clean-passed I (t .rights) (p .state) (p .vstart) n j a (rw (← ek) b)) q
         go (write x) q f = absurd (subst T (sym f) tt)
-    legal-cases n k false true h en ek eb ec = w .on-paused n h (omega arith) (omega (arith, ltb-true))
+    legal-cases n k false true h en ek eb ec = w .on-paused n h (omega (arith, ltb-true)) (omega (arith, ltb-true))
         (λ j a b. clean-passed I (t .rights) (p .state) (p .vstart) n j a (rw (← ek) (omega (arith, ltb-false))))
     legal-cases n k false false h en ek eb ec =
         let l : remaining I p ≤ n = ltb-false _ _ ec in
@@ -252,7 +252,7 @@ module _ (I : Semantics) where
     });
     on-paused = λ k h l e f. went-cut (record {
       is-legal = h;
-      within = l;
+      within = omega arith;
       no-fault = f;
       unfinished = λ q. (let z : _≡_ {A = ℕ} 0 1 = cc in omega arith);
       left = refl;

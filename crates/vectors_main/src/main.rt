@@ -1,12 +1,14 @@
-// Runs instruction vectors through the public call. Standard input has records of lines: 'c' a case (word, allowance, the fields of the
+// Runs instruction vectors through the public calls. Standard input has records of lines: 'c' a case (word, allowance, the fields of the
 // control record, and the lengths of the register file, the scalars, memory and the rights), 'x' a scalar, 'v' bytes of a register, 'p' the
-// right of a range of pages, and '.', upon which the turn is taken. For each it writes the answer, the number passed, the fault address,
-// the control record after, and every byte or scalar that has changed.
+// right of a range of pages, and then '.', upon which the turn is taken, or '?', upon which the access check is made. Of a turn it writes the
+// answer, the number passed, the fault address, the control record after, and every byte or scalar that has changed; of a check the answer,
+// the element and the number of pages.
 ghost use mathlib.Core.Path.{_≡_};
 ghost use Prim.Native.Nat.{_≤_};
 ghost use lib.ListN.{length};
 use control::Control;
 use machine::Turned;
+use unit_stride::Checked;
 
 // ---- the state that a case starts from, but for what its lines say
 
@@ -218,8 +220,25 @@ fn print_scalars(scalars: &[u64], before: &[u64]) {
     }
 }
 
-// The turn, and what it changed.
-fn take_turn(
+fn print_checked(checked: Checked) {
+    let answer = checked.answer;
+    io::print_decimal(1, answer::number(answer));
+    io::write_all(1, b" ");
+    io::print_decimal(1, checked.element);
+    io::write_all(1, b" ");
+    io::print_decimal(1, checked.pages);
+    io::write_all(1, b"\n");
+}
+
+fn take_check(head: &[u8], registers: &[u8], scalars: &[u64], memory: &[u8], rights: &[u8]) {
+    let word = hexadecimal::number(head, 0, 8) as u32;
+    let control = case_lines::control_at(head, 16);
+    print_checked(access_check::check(word, registers, scalars, memory, rights, control));
+}
+
+// The turn, and what it changed; or the check.
+fn take(
+    is_check: bool,
     head: &[u8],
     registers: &mut [u8],
     scalars: &mut [u64],
@@ -227,6 +246,10 @@ fn take_turn(
     rights: &[u8],
     memory_before: &[u8],
 ) {
+    if is_check {
+        take_check(head, registers, scalars, memory, rights);
+        return;
+    }
     let word = hexadecimal::number(head, 0, 8) as u32;
     let allowance = hexadecimal::number(head, 8, 8) as u32;
     let control = case_lines::control_at(head, 16);
@@ -246,8 +269,9 @@ fn capped(n: u64, room: usize) -> usize
     if n as usize <= room { n as usize } else { room }
 }
 
-// The turn of a case, on the lengths that its first line says.
+// The turn or the check of a case, on the lengths that its first line says.
 fn finish(
+    is_check: bool,
     head: &[u8],
     registers: &mut [u8],
     scalars: &mut [u64],
@@ -259,7 +283,8 @@ fn finish(
     let of_scalars = capped(hexadecimal::number(head, 120, 8), scalars.len());
     let of_memory = capped(hexadecimal::number(head, 128, 8), memory.len());
     let of_rights = capped(hexadecimal::number(head, 136, 8), rights.len());
-    take_turn(
+    take(
+        is_check,
         head,
         &mut registers[..of_registers],
         &mut scalars[..of_scalars],
@@ -309,7 +334,27 @@ fn step(
         112 => read_rights(rights),
         46 => {
             read_end();
-            finish(head, registers, scalars, memory, rights, memory_before);
+            finish(
+                false,
+                head,
+                registers,
+                scalars,
+                memory,
+                rights,
+                memory_before,
+            );
+        }
+        63 => {
+            read_end();
+            finish(
+                true,
+                head,
+                registers,
+                scalars,
+                memory,
+                rights,
+                memory_before,
+            );
         }
         _ => return false,
     }

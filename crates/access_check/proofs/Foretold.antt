@@ -1,0 +1,152 @@
+-- What the access check says beforehand of the turn holds of the definition, on every board that the machine is for.
+use Prim.Native.Nat.{ℕ, _-_, _^_, _≤_, min}
+use mathlib.Core.Path.{_≡_, refl, sym, ap, subst, _∙_}
+use mathlib.Core.Bool.{true, false, _&&_}
+use mathlib.Core.Option.{Option, none, some}
+use native.Mathlib.Omega.{arith}
+use lib.Dec.{T}
+use Rattle.laws.proofs.Apart.{both-left}
+use Rattle.laws.proofs.Chain.{either}
+use Rattle.answer.specs.declared.Answer.{Answer}
+use Rattle.answer.specs.declared.Answer.the-variants.{Finished, Paused, Illegal}
+use Rattle.answer.specs.declared.Answer.the-variants.{LoadMisaligned, LoadAccess, StoreMisaligned, StoreAccess}
+use Rattle.answer.specs.declared.Answer.the-variants.{BadRegisters, BadScalars, BadMemory, BadRights, BadControl, NoGroup}
+use Rattle.control.specs.declared.Board.{Board}
+use Rattle.control.specs.Board.{Valid, base}
+use Rattle.control.proofs.Laws.{base-valid, possible-apart}
+use Rattle.decode.specs.Word.{decodeOf}
+use Rattle.decode.proofs.Fields.{fits}
+use Rattle.plan.specs.declared.Plan.{Plan}
+use Rattle.turn_theory.specs.Turn.{Semantics, paused, Point, Turn, remaining, answered, legal, turn}
+use Rattle.turn_theory.proofs.Laws.{turn-cases}
+use Rattle.machine.specs.State.{State, Outcome, coreOf}
+use Rattle.machine.specs.Machine.{rejectionAt, semanticsOf, answerOf, outcomeOf, planAt, turnOf}
+use Rattle.machine.specs.Demands.{isTrap, changesNothing}
+use Rattle.machine.proofs.PlanFacts.{plan-sound}
+use Rattle.machine.proofs.Lawful.{facts, lawful}
+use Rattle.machine.proofs.Demands.{apart, turnWith, pointOf, answer-cases, counted}
+use Rattle.unit_stride.specs.declared.Checked.{Checked}
+use Rattle.access_check.specs.AccessCheck.{isUnitStride, planPages, nothingTested, accessCheckOf}
+use Rattle.access_check.specs.Foretold.{Enough, Foretold}
+use Rattle.access_check.proofs.CheckLaws.{other-check}
+
+-- ---- two turns of which each may pass all that remains
+
+module _ (I : Semantics) (r : I .Rights) (m n : ℕ) (p : Point I) where
+  abbrev allowed : ℕ → Turn I
+  allowed k = record { rights = r; allowance = k }
+
+  same-turn : (I .rejection r (p .state) (p .vstart) ≡ none → remaining I p ≤ m) → remaining I p ≤ n
+      → turn I (allowed m) p ≡ turn I (allowed n) p
+  unfolding turn
+  same-turn h l = go (I .rejection r (p .state) (p .vstart)) refl
+    where
+      go : (x : Option (I .Rejection)) → I .rejection r (p .state) (p .vstart) ≡ x
+          → answered I x p (legal I r p (min m (remaining I p))) ≡ answered I x p (legal I r p (min n (remaining I p)))
+      go (some x) e = refl
+      go none e = let q : min m (remaining I p) ≡ min n (remaining I p) = omega (arith, h e) in rw q
+
+-- no answer is a trap's that changes nothing
+never-both : (a : Answer) → (changesNothing a && isTrap a) ≡ false
+never-both Finished = refl
+never-both Paused = refl
+never-both Illegal = refl
+never-both LoadMisaligned = refl
+never-both LoadAccess = refl
+never-both StoreMisaligned = refl
+never-both StoreAccess = refl
+never-both BadRegisters = refl
+never-both BadScalars = refl
+never-both BadMemory = refl
+never-both BadRights = refl
+never-both BadControl = refl
+never-both NoGroup = refl
+
+module _ (b : Board) (w : Valid b) (word : ℕ) (s : State) where
+  abbrev plan : Plan
+  plan = planAt b word s
+
+  abbrev J : Semantics
+  J = semanticsOf b plan
+
+  -- no more elements remain than an uncut turn may pass
+  few : rejectionAt b plan (s .rights) (coreOf s) (s .control .vstart) ≡ none → remaining J (pointOf b plan s) ≤ 2 ^ 32 - 1
+  few h =
+      let possible = possible-apart b (s .control) (facts b plan (s .rights) (coreOf s) (s .control .vstart) h .acceptable .possible) in
+      let sound = plan-sound b (s .scalars) (s .control) (decodeOf word) w possible (fits word) in
+      omega (arith, lawful b w plan sound .bounded (s .rights) (coreOf s) (s .control .vstart) h)
+
+  uncut-same : (n : ℕ) → Enough b word s n → turnOf b word n s ≡ turnOf b word (2 ^ 32 - 1) s
+  unfolding turnOf
+  uncut-same n e = ap (outcomeOf b plan (s .rights)) (sym (same-turn J (s .rights) (2 ^ 32 - 1) n (pointOf b plan s) few e))
+
+  unpaused-end : turn J (turnWith b plan (s .rights) (2 ^ 32 - 1)) (pointOf b plan s) .ending ≡ paused → ⊥
+  unpaused-end = turn-cases J (turnWith b plan (s .rights) (2 ^ 32 - 1)) (pointOf b plan s) (λ o. o .ending ≡ paused → ⊥) (record {
+    on-rejected = λ x e z. (let y : _≡_ {A = ℕ} 0 1 = cc in omega arith);
+    on-trapped = λ x k h l f e z. (let y : _≡_ {A = ℕ} 0 1 = cc in omega arith);
+    on-paused = λ k h l e f z. omega (arith, few h);
+    on-finished = λ h l z. (let y : _≡_ {A = ℕ} 0 1 = cc in omega arith);
+  })
+
+  unpaused-turn : turnOf b word (2 ^ 32 - 1) s .answer ≡ Paused → ⊥
+  unfolding turnOf
+  unpaused-turn = answer-cases b plan (turnWith b plan (s .rights) (2 ^ 32 - 1)) (pointOf b plan s)
+      (λ o. (o .ending ≡ paused → ⊥) → answerOf (o .ending) ≡ Paused → ⊥)
+      (λ a h f. apart changesNothing a Paused h refl)
+      (λ x k c h f. apart isTrap (x .answer) Paused (both-left (isTrap (x .answer)) _ h) refl)
+      (λ c f e. f refl)
+      (λ c f e. let y : _≡_ {A = ℕ} 0 1 = cc in omega arith)
+      unpaused-end
+
+  -- the check by the outcome of the uncut turn
+  abbrev o : Outcome
+  o = turnOf b word (2 ^ 32 - 1) s
+
+  by-outcome : (P : Checked → Type 0) → (changesNothing (o .answer) ≡ true → P (nothingTested (o .answer)))
+      → (changesNothing (o .answer) ≡ false → isUnitStride (decodeOf word) ≡ true
+      → P (record { answer = o .answer; element = o .after .control .vstart; pages = planPages b s o plan }))
+      → (isUnitStride (decodeOf word) ≡ false → P (nothingTested Illegal)) → P (accessCheckOf b word s)
+  unfolding accessCheckOf
+  by-outcome P f g h =
+      either P (changesNothing (o .answer)) _ _ f (λ t. either P (isUnitStride (decodeOf word)) _ _ (g t) h)
+
+  finishes : accessCheckOf b word s .answer ≡ Finished → (o .answer ≡ Finished) × (accessCheckOf b word s .element ≡ 0)
+  finishes = by-outcome (λ c. c .answer ≡ Finished → (o .answer ≡ Finished) × (c .element ≡ 0))
+      (λ t e. absurd (apart changesNothing (o .answer) Finished t refl e))
+      (λ t u e. (e, counted b .remained word (2 ^ 32 - 1) s e .1))
+      (λ u e. absurd (let y : _≡_ {A = ℕ} 0 1 = cc in omega arith))
+
+  traps : isTrap (accessCheckOf b word s .answer) ≡ true
+      → (o .answer ≡ accessCheckOf b word s .answer) × (o .after .control .vstart ≡ accessCheckOf b word s .element)
+  traps = by-outcome (λ c. isTrap (c .answer) ≡ true → (o .answer ≡ c .answer) × (o .after .control .vstart ≡ c .element))
+      (λ t e. absurd (subst T (never-both (o .answer)) (rw (t, e) tt)))
+      (λ t u e. (refl, refl))
+      (λ u e. absurd (subst T (sym e) tt))
+
+  unpaused : accessCheckOf b word s .answer ≡ Paused → ⊥
+  unpaused = by-outcome (λ c. c .answer ≡ Paused → ⊥)
+      (λ t. apart changesNothing (o .answer) Paused t refl)
+      (λ t u. unpaused-turn)
+      (λ u e. let y : _≡_ {A = ℕ} 0 1 = cc in omega arith)
+
+  same-answer : isUnitStride (decodeOf word) ≡ true → accessCheckOf b word s .answer ≡ o .answer
+  same-answer = by-outcome (λ c. isUnitStride (decodeOf word) ≡ true → c .answer ≡ o .answer)
+      (λ t u. refl) (λ t u v. refl) (λ u v. absurd (subst T u (subst T (sym v) tt)))
+
+  nothing : changesNothing (accessCheckOf b word s .answer) ≡ true → accessCheckOf b word s ≡ nothingTested (accessCheckOf b word s .answer)
+  nothing = by-outcome (λ c. changesNothing (c .answer) ≡ true → c ≡ nothingTested (c .answer))
+      (λ t e. refl) (λ t u e. absurd (subst T t (subst T (sym e) tt))) (λ u e. refl)
+
+pub foretold-on : (b : Board) → Valid b → Foretold b
+foretold-on b w = record {
+  finishes = λ word n s e h. rw (uncut-same b w word s n e) (finishes b w word s h);
+  traps = λ word n s e h. rw (uncut-same b w word s n e) (traps b w word s h);
+  unpaused = λ word s. unpaused b w word s;
+  same-answer = λ word n s e u. rw (uncut-same b w word s n e) (same-answer b w word s u);
+  other-words = λ word s h u. sym (other-check b word s h u);
+  nothing = λ word s. nothing b w word s;
+}
+
+-- the board of document 01, whose check `access_check::check` promises
+pub foretold : Foretold base
+foretold = foretold-on base (base-valid base refl)

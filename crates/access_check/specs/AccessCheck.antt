@@ -1,0 +1,74 @@
+-- The access check (document 02, A2): what an uncut turn of a unit-stride access would answer, at which element, and how many pages are
+-- tested for that.
+use Prim.Native.Nat.{ℕ, zero, suc, _+_, _-_, _%_, _^_}
+use mathlib.Core.Bool.{Bool, true, false, not, _&&_, _||_, cond}
+use lib.ListN.{length}
+use lib.Dec.{leb, eqb}
+use Rattle.width.specs.Width.{flag}
+use Rattle.answer.specs.declared.Answer.{Answer}
+use Rattle.answer.specs.declared.Answer.the-variants.{Illegal}
+use Rattle.control.specs.declared.Board.{Board}
+use Rattle.decode.specs.declared.Mode.{Mode}
+use Rattle.decode.specs.declared.Mode.the-variants as M
+use Rattle.decode.specs.declared.Instruction.{Instruction}
+use Rattle.decode.specs.declared.Instruction.the-variants as I
+use Rattle.decode.specs.Word.{decodeOf}
+use Rattle.access.specs.Access.{pageOf}
+use Rattle.plan.specs.declared.Action.{Action}
+use Rattle.plan.specs.declared.Action.the-variants as A
+use Rattle.plan.specs.declared.Elementwise.{Elementwise}
+use Rattle.plan.specs.declared.Plan.{Plan}
+use Rattle.plan.specs.declared.Plan.the-variants as P
+use Rattle.machine.specs.State.{State, Outcome}
+use Rattle.machine.specs.Effect.{activeOf, elementAddress}
+use Rattle.machine.specs.Machine.{planAt, turnOf}
+use Rattle.machine.specs.Demands.{isTrap, changesNothing}
+use Rattle.unit_stride.specs.declared.Checked.{Checked}
+use Rattle.unit_stride.specs.Pages.{differentPages, pageTested}
+
+-- ---- the words that it is for: "a plain, mask or whole-register unit-stride access". With several fields it is a segment's, and not plain
+
+abbrev pub unitStrideMode : Mode → ℕ → Bool
+unitStrideMode M.UnitStride nf = eqb nf 0
+unitStrideMode (M.Strided r) nf = false
+unitStrideMode (M.Indexed r) nf = false
+unitStrideMode M.MaskBytes nf = true
+unitStrideMode (M.Whole n) nf = true
+
+abbrev pub isUnitStride : Instruction → Bool
+isUnitStride I.Illegal = false
+isUnitStride (I.Arithmetic a) = false
+isUnitStride (I.Mask m) = false
+isUnitStride (I.Setting t) = false
+isUnitStride (I.Memory a) = unitStrideMode (a .mode) (a .nf)
+
+-- ---- the check
+
+-- of the state before and the outcome of the turn. An access that is no segment's and has no offsets has element i at `elementAddress t i 0`
+module _ (b : Board) (s : State) (o : Outcome) where
+  -- "before the first faulty one, and of that one unless it is misaligned or past memory". An operation has no pages: `isUnitStride`
+  unfoldable pub pagesTested : Elementwise → Action → ℕ
+  pagesTested e (A.Compute k) = 0
+  pagesTested e (A.Transfer t) =
+      differentPages (activeOf (b .vlenb) (s .registers) (e .masked)) (λ (i : ℕ). pageOf (elementAddress t i 0)) (s .control .vstart)
+      (o .passed + flag (isTrap (o .answer)
+      && pageTested (length (s .memory)) (elementAddress t (s .control .vstart + o .passed) 0) (t .bytes)))
+
+  abbrev pub planPages : Plan → ℕ
+  planPages P.Illegal = 0
+  planPages (P.OneTurn t) = 0
+  planPages (P.Elements e) = pagesTested e (e .action)
+
+-- "a refusal shows element 0 and 0 pages", and so does 2
+abbrev pub nothingTested : Answer → Checked
+nothingTested a = record { answer = a; element = 0; pages = 0 }
+
+-- "Either way it equals what a turn with enough allowance answers". Where the turn traps, vstart after it is the element; where it finishes,
+-- 0. "Refusals: 32 to 36 and 2 as for a turn; any word but .. unit-stride access is 2"
+unfoldable pub accessCheckOf : Board → ℕ → State → Checked
+accessCheckOf b word s =
+    let o : Outcome = turnOf b word (2 ^ 32 - 1) s in
+    cond (changesNothing (o .answer)) (nothingTested (o .answer))
+    (cond (isUnitStride (decodeOf word))
+    (record { answer = o .answer; element = o .after .control .vstart; pages = planPages b s o (planAt b word s) })
+    (nothingTested Illegal))

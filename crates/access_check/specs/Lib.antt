@@ -1,0 +1,2 @@
+pub mod AccessCheck
+pub mod Foretold

@@ -1,0 +1,5 @@
+pub mod PageLaws
+pub mod PackedLaws
+pub mod TestedLaws
+pub mod UnmaskedLaws
+pub mod MaskedLaws

@@ -1,0 +1,41 @@
+-- What comes of testing the elements, from what the code has: an answer, an element and a number of pages.
+use Prim.Native.Nat.{ℕ, _+_, _<_}
+use mathlib.Core.Path.{_≡_}
+use mathlib.Core.Bool.{Bool, true, false}
+use mathlib.Core.List.{List}
+use native.Mathlib.Omega.{arith}
+use Rattle.width.specs.Width.{flag}
+use Rattle.answer.specs.declared.Answer.{Answer}
+use Rattle.answer.specs.declared.Answer.the-variants.{Finished}
+use Rattle.access.specs.declared.Fault.{Fault}
+use Rattle.access.specs.declared.AccessTest.the-variants.{Granted, Faulted}
+use Rattle.plan.specs.declared.Action.{Action}
+use Rattle.plan.specs.declared.Action.the-variants as A
+use Rattle.plan.specs.declared.Compute.{Compute}
+use Rattle.plan.specs.declared.Transfer.{Transfer}
+use Rattle.machine.specs.Effect.{activeOf, elementAddress}
+use Rattle.unit_stride.specs.declared.Checked.{Checked}
+use Rattle.unit_stride.specs.Pages.{pageTested}
+use Rattle.unit_stride.specs.Tested.{all, testOf, pagesFrom, Tested, none-faults, first-faults}
+
+module _ (active : ℕ → Bool) (rights : List ℕ) (memory : ℕ) (t : Transfer) (v n : ℕ) where
+  pub finishes : (pages : ℕ) → ((j : ℕ) → j < n → testOf active rights memory t (v + j) ≡ Granted)
+      → pagesFrom active rights memory t v n ≡ pages
+      → Tested active rights memory t v n (record { answer = Finished; element = 0; pages = pages })
+  finishes pages h e = rw (← e) (none-faults h)
+
+  pub faults : (k element pages : ℕ) (x : Answer) (f : Fault) → k < n → ((j : ℕ) → j < k → testOf active rights memory t (v + j) ≡ Granted)
+      → testOf active rights memory t (v + k) ≡ Faulted f → f .answer ≡ x → v + k ≡ element
+      → pagesFrom active rights memory t v (k + flag (pageTested memory (elementAddress t (v + k) 0) (t .bytes))) ≡ pages
+      → Tested active rights memory t v n (record { answer = x; element = element; pages = pages })
+  faults k element pages x f l h g p q e = rw (← p, ← q, ← e) (first-faults k f l h g)
+
+-- ---- with a mask or without
+
+module _ (vlenb : ℕ) (file rights : List ℕ) (memory : ℕ) (t : Transfer) (v n : ℕ) (masked : Bool) (r : Checked) where
+  pub by-mask : masked ≡ true → Tested (activeOf vlenb file true) rights memory t v n r
+      → Tested (activeOf vlenb file masked) rights memory t v n r
+  by-mask e h = rw e h
+
+  pub without-mask : masked ≡ false → Tested all rights memory t v n r → Tested (activeOf vlenb file masked) rights memory t v n r
+  without-mask e h = rw e h

@@ -1,0 +1,31 @@
+use Prim.Native.Nat.{_-_}
+use mathlib.Core.Bool.{true}
+use native.Mathlib.Omega.{arith}
+use borrow.Author.Needs.{needs}
+use Rattle.machine.specs.Effect.{activeOf}
+use Rattle.unit_stride.proofs.MaskedLaws.{Walking, walking-none, walking-more, walking-fault, walking-done}
+use Rattle.unit_stride.proofs.MaskedLaws.{index-fits, mask-at, tally-few, page-few}
+use Rattle.unit_stride.proofs.walked.Statement.{statement}
+use Rattle.unit_stride.proofs.walked.Tie as tie
+
+pub walked-spec : {M : Type 1} → statement M
+walked-spec =
+    tie.close
+    (tie.spec
+    (λ registers vlenb rights memory t vstart remaining tally₀ k₀ tally k.
+    Walking (activeOf vlenb registers true) rights memory t vstart remaining k tally)
+    (λ registers vlenb rights memory t vstart remaining tally₀ k₀ tally k. remaining - k)
+    (λ c. search walking-none)
+    (λ c. search index-fits)
+    (λ c κs. search needs)
+    (λ c κs. search mask-at)
+    (λ c κs. search needs)
+    (λ c κs. (search tally-few, search page-few))
+    (λ c κs. search needs)
+    (λ c. search needs)
+    (λ c. omega arith)
+    (λ c. omega arith)
+    (λ c. search walking-more)
+    (λ c. search needs)
+    (λ c. search walking-fault)
+    (λ c. search walking-done))
