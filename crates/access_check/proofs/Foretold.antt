@@ -20,14 +20,14 @@ use Rattle.plan.specs.declared.Plan.{Plan}
 use Rattle.turn_theory.specs.Turn.{Semantics, paused, Point, Turn, remaining, answered, legal, turn}
 use Rattle.turn_theory.proofs.Laws.{turn-cases}
 use Rattle.machine.specs.State.{State, Outcome, coreOf}
-use Rattle.machine.specs.Machine.{rejectionAt, semanticsOf, answerOf, outcomeOf, planAt, turnOf}
+use Rattle.machine.specs.Machine.{rejectionAt, semanticsOf, answerOf, outcomeOf, endOf, planAt, turnOf}
 use Rattle.machine.specs.Demands.{isTrap, changesNothing}
 use Rattle.machine.proofs.PlanFacts.{plan-sound}
 use Rattle.machine.proofs.Lawful.{facts, lawful}
 use Rattle.machine.proofs.Demands.{apart, turnWith, pointOf, answer-cases, counted}
 use Rattle.unit_stride.specs.declared.Checked.{Checked}
 use Rattle.access_check.specs.AccessCheck.{isUnitStride, planPages, nothingTested, accessCheckOf}
-use Rattle.access_check.specs.Foretold.{Enough, Foretold}
+use Rattle.access_check.specs.Foretold.{Foretold}
 use Rattle.access_check.proofs.CheckLaws.{other-check}
 
 -- ---- two turns of which each may pass all that remains
@@ -76,7 +76,7 @@ module _ (b : Board) (w : Valid b) (word : ℕ) (s : State) where
       let sound = plan-sound b (s .scalars) (s .control) (decodeOf word) w possible (fits word) in
       omega (arith, lawful b w plan sound .bounded (s .rights) (coreOf s) (s .control .vstart) h)
 
-  uncut-same : (n : ℕ) → Enough b word s n → turnOf b word n s ≡ turnOf b word (2 ^ 32 - 1) s
+  uncut-same : (n : ℕ) → endOf plan - s .control .vstart ≤ n → turnOf b word n s ≡ turnOf b word (2 ^ 32 - 1) s
   unfolding turnOf
   uncut-same n e = ap (outcomeOf b plan (s .rights)) (sym (same-turn J (s .rights) (2 ^ 32 - 1) n (pointOf b plan s) few e))
 
@@ -139,10 +139,11 @@ module _ (b : Board) (w : Valid b) (word : ℕ) (s : State) where
 
 pub foretold-on : (b : Board) → Valid b → Foretold b
 foretold-on b w = record {
-  finishes = λ word n s e h. rw (uncut-same b w word s n e) (finishes b w word s h);
-  traps = λ word n s e h. rw (uncut-same b w word s n e) (traps b w word s h);
+  finishes = λ word s. finishes b w word s;
+  traps = λ word s. traps b w word s;
   unpaused = λ word s. unpaused b w word s;
-  same-answer = λ word n s e u. rw (uncut-same b w word s n e) (same-answer b w word s u);
+  same-answer = λ word s. same-answer b w word s;
+  enough = λ word n s. uncut-same b w word s n;
   other-words = λ word s h u. sym (other-check b word s h u);
   nothing = λ word s. nothing b w word s;
 }

@@ -1,3 +1,4 @@
+use native.Mathlib.Omega.{arith}
 use borrow.Author.Needs.{needs}
 use Rattle.layout.proofs.WidthLaws.{size-pos}
 use Rattle.unit_stride.proofs.UnmaskedLaws.{span-fits, last-fits, first-last, last-page, page-fits, element-fits}
@@ -21,10 +22,22 @@ by-pages-spec =
     (λ c κs. search needs)
     (λ c. search needs)
     (λ c. search needs)
-    (λ c. search at-closed)
+    (λ c.
+    let found = c .before .before .before in
+    let start = found .before .before .before in
+    at-closed _ _ _ _ _ (start .pre .0) _ _ (start .pre .1 .0) (start .pre .1 .1) _ _ (found .before .right-needed .ensures)
+    (found .first-closed .ensures) _ _ (omega (arith, c .before .before .if1 .taken)) (c .before .less .ensures) (c .denied-answer .ensures))
     (λ c. search needs)
     (λ c. search needs)
     (λ c κs. search needs)
     (λ c. search needs)
-    (λ c. search at-end)
-    (λ c. search at-clear))
+    (λ c.
+    let found = c .before .before .before in
+    let start = found .before .before .before in
+    at-end _ _ _ _ _ (start .pre .0) _ _ (start .pre .1 .0) (start .pre .1 .1) _ _ (found .before .right-needed .ensures)
+    (found .first-closed .ensures) (omega (arith, c .before .before .if1 .left)) _ (c .before .if2 .taken) (c .denied-answer2 .ensures))
+    (λ c.
+    let found = c .before .before in
+    let start = found .before .before .before in
+    at-clear _ _ _ _ _ (start .pre .0) _ _ (start .pre .1 .0) (start .pre .1 .1) _ _ (found .before .right-needed .ensures)
+    (found .first-closed .ensures) (omega (arith, c .before .if1 .left)) (c .if2 .left)))

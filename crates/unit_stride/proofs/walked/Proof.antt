@@ -25,7 +25,25 @@ walked-spec =
     (λ c. search needs)
     (λ c. omega arith)
     (λ c. omega arith)
-    (λ c. search walking-more)
+    (λ c.
+    let tested = c .before .before in
+    let counted = tested .before in
+    let reached = counted .before in
+    let asked = reached .before in
+    let placed = asked .before in
+    let looped = placed .before in
+    walking-more _ _ _ _ _ _ (looped .before .before .before .before .pre .0) _ _ (looped .before .loop .inv) (looped .loop-test .taken)
+    _ _ _ _ _ (asked .active .ensures) (placed .address .ensures) (reached .page-tested .ensures) (counted .tallied .ensures)
+    (tested .test .ensures) (c .enum-told .given .1))
     (λ c. search needs)
-    (λ c. search walking-fault)
+    (λ c.
+    let tested = c .before .before .before in
+    let counted = tested .before in
+    let reached = counted .before in
+    let asked = reached .before in
+    let placed = asked .before in
+    let looped = placed .before in
+    walking-fault _ _ _ _ _ _ (looped .before .before .before .before .pre .0) _ _ (looped .before .loop .inv) (looped .loop-test .taken)
+    _ _ _ _ _ (asked .active .ensures) (placed .address .ensures) (reached .page-tested .ensures) (counted .tallied .ensures)
+    (tested .test .ensures) _ (c .before .fault .given .1))
     (λ c. search walking-done))
