@@ -1,49 +1,44 @@
 -- From the test of each element to the definition of the check: what an uncut turn answers where no element faults, and where one does.
-use Prim.Native.Nat.{ℕ, zero, suc, _+_, _-_, _*_, _^_, _≤_, _<_, min}
+use Prim.Native.Nat.{ℕ, zero, _+_, _-_, _^_, _≤_, _<_, min}
 use mathlib.Core.Path.{_≡_, refl, sym, ap, subst, _∙_}
-use mathlib.Core.Bool.{Bool, true, false, not, _&&_, cond}
+use mathlib.Core.Bool.{Bool, true, false, cond}
 use mathlib.Core.List.{List}
 use mathlib.Core.Option.{none, some}
 use native.Mathlib.Omega.{arith}
-use native.Mathlib.Nat.{add-zero, le-refl}
+use native.Mathlib.Nat.{add-zero}
 use lib.ListN.{length}
-use lib.Dec.{T, ltb}
 use borrow.Author.Tests.{lt-ltb, not-true}
 use Rattle.laws.proofs.Apart.{both-left, both-right}
-use Rattle.width.specs.Width.{flag}
 use Rattle.answer.specs.declared.Answer.{Answer}
-use Rattle.answer.specs.declared.Answer.the-variants.{Finished, Illegal}
-use Rattle.answer.specs.declared.Verdict.{Verdict}
+use Rattle.answer.specs.declared.Answer.the-variants.{Illegal}
 use Rattle.answer.specs.declared.Verdict.the-variants.{Accepted, Refused}
 use Rattle.control.specs.declared.Board.{Board}
-use Rattle.control.specs.declared.Control.{Control}
 use Rattle.decode.specs.Word.{decodeOf}
 use Rattle.access.specs.declared.Fault.{Fault}
 use Rattle.access.specs.declared.AccessTest.{AccessTest}
 use Rattle.access.specs.declared.AccessTest.the-variants.{Granted, Faulted}
-use Rattle.access.specs.Access.{pageOf, accessOf, fieldAddress, orNext, fieldsAccess}
+use Rattle.access.specs.Access.{accessOf, fieldAddress, orNext, fieldsAccess}
 use Rattle.refusal.specs.Refusal.{refusalOf}
 use Rattle.plan.specs.declared.Read.the-variants as R
-use Rattle.plan.specs.declared.Action.{Action}
 use Rattle.plan.specs.declared.Action.the-variants as A
 use Rattle.plan.specs.declared.Transfer.{Transfer}
 use Rattle.plan.specs.declared.Elementwise.{Elementwise}
 use Rattle.plan.specs.declared.Plan.{Plan}
 use Rattle.plan.specs.declared.Plan.the-variants as P
 use Rattle.legality.specs.Legal.{legalOf}
-use Rattle.turn_theory.specs.Turn.{Effect, inactive, fault, write, faults, Semantics, finished, paused, trapped, rejected, Point, TurnEnd}
-use Rattle.turn_theory.specs.Turn.{Turn, clean, remaining, passing, turn, uncutAllowance}
-use Rattle.turn_theory.proofs.Laws.{clean-exact, Runs, done, runs-done, turn-cases, turn-rejected}
+use Rattle.turn_theory.specs.Turn.{inactive, fault, write, faults, Semantics, trapped, rejected, Point, TurnEnd}
+use Rattle.turn_theory.specs.Turn.{Turn, clean, remaining, passing, turn}
+use Rattle.turn_theory.proofs.Laws.{clean-exact, done, runs-done, turn-cases, turn-rejected}
 use Rattle.machine.specs.State.{State, Outcome, Core, coreOf}
 use Rattle.machine.specs.Effect.{Write, activeOf, valueOf, elementAddress, ifGranted, actingOf, effectOf}
-use Rattle.machine.specs.Machine.{rejectionAt, semanticsOf, answerOf, outcomeOf, planTurn, planAt, turnOf}
+use Rattle.machine.specs.Machine.{rejectionAt, semanticsOf, answerOf, planTurn, planAt, turnOf}
 use Rattle.machine.specs.Demands.{isTrap, changesNothing}
-use Rattle.machine.proofs.Demands.{turnWith, pointOf, answer-cases, demand-1}
+use Rattle.machine.proofs.Demands.{turnWith, pointOf, answer-cases}
 use Rattle.execute.specs.Step.{checkOf}
 use Rattle.element_loop.proofs.LoopLaws.{check-fault, check-granted}
 use Rattle.unit_stride.specs.declared.Checked.{Checked}
 use Rattle.access_check.specs.AccessCheck.{isUnitStride, pagesTested, nothingTested, accessCheckOf}
-use Rattle.unit_stride.specs.Tested.{testOf, pagesFrom, Tested, none-faults, first-faults}
+use Rattle.unit_stride.specs.Tested.{testOf, Tested, none-faults, first-faults}
 
 -- ---- the effect of an element is what its access test says
 
@@ -156,7 +151,8 @@ module _ (b : Board) (word : ℕ) (s : State) where
   rejected-with a h =
       let e : turn (semanticsOf b (planAt b word s)) uncut from ≡ record { ending = rejected a; passed = zero; after = from } =
       turn-rejected (semanticsOf b (planAt b word s)) uncut from a h in
-      let c : changesNothing a ≡ true = rejects b (planAt b word s) uncut from a (ap (λ (o : TurnEnd (semanticsOf b (planAt b word s))). o .ending) e) in
+      let c : changesNothing a ≡ true =
+      rejects b (planAt b word s) uncut from a (ap (λ (o : TurnEnd (semanticsOf b (planAt b word s))). o .ending) e) in
       rw (e, c)
 
   pub refused-check : (a : Answer)

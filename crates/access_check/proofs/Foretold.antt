@@ -1,6 +1,6 @@
 -- What the access check says beforehand of the turn holds of the definition, on every board that the machine is for.
 use Prim.Native.Nat.{ℕ, _-_, _^_, _≤_, min}
-use mathlib.Core.Path.{_≡_, refl, sym, ap, subst, _∙_}
+use mathlib.Core.Path.{_≡_, refl, sym, ap, subst}
 use mathlib.Core.Bool.{true, false, _&&_}
 use mathlib.Core.Option.{Option, none, some}
 use native.Mathlib.Omega.{arith}

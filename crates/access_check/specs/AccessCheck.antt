@@ -1,9 +1,9 @@
 -- The access check (document 02, A2): what an uncut turn of a unit-stride access would answer, at which element, and how many pages are
 -- tested for that.
-use Prim.Native.Nat.{ℕ, zero, suc, _+_, _-_, _%_, _^_}
-use mathlib.Core.Bool.{Bool, true, false, not, _&&_, _||_, cond}
+use Prim.Native.Nat.{ℕ, _+_, _-_, _^_}
+use mathlib.Core.Bool.{Bool, true, false, _&&_, cond}
 use lib.ListN.{length}
-use lib.Dec.{leb, eqb}
+use lib.Dec.{eqb}
 use Rattle.width.specs.Width.{flag}
 use Rattle.answer.specs.declared.Answer.{Answer}
 use Rattle.answer.specs.declared.Answer.the-variants.{Illegal}
@@ -16,6 +16,7 @@ use Rattle.decode.specs.Word.{decodeOf}
 use Rattle.access.specs.Access.{pageOf}
 use Rattle.plan.specs.declared.Action.{Action}
 use Rattle.plan.specs.declared.Action.the-variants as A
+use Rattle.plan.specs.declared.Transfer.{Transfer}
 use Rattle.plan.specs.declared.Elementwise.{Elementwise}
 use Rattle.plan.specs.declared.Plan.{Plan}
 use Rattle.plan.specs.declared.Plan.the-variants as P
@@ -44,15 +45,21 @@ isUnitStride (I.Memory a) = unitStrideMode (a .mode) (a .nf)
 
 -- ---- the check
 
--- of the state before and the outcome of the turn. An access that is no segment's and has no offsets has element i at `elementAddress t i 0`
+-- of the state before and the outcome of the turn. A unit-stride access has one field and no offsets: element i lies at
+-- `elementAddress t i 0`
 module _ (b : Board) (s : State) (o : Outcome) where
-  -- "before the first faulty one, and of that one unless it is misaligned or past memory". An operation has no pages: `isUnitStride`
+  -- the first faulty element is the one after those passed; its page is tested "unless it is misaligned or past memory"
+  abbrev pub faultyTested : Transfer → Bool
+  faultyTested t =
+      isTrap (o .answer) && pageTested (length (s .memory)) (elementAddress t (s .control .vstart + o .passed) 0) (t .bytes)
+
+  -- "the number of different pages of the active elements before the first faulty one, and of that one unless ..". An operation has none:
+  -- it is no unit-stride access
   unfoldable pub pagesTested : Elementwise → Action → ℕ
   pagesTested e (A.Compute k) = 0
   pagesTested e (A.Transfer t) =
       differentPages (activeOf (b .vlenb) (s .registers) (e .masked)) (λ (i : ℕ). pageOf (elementAddress t i 0)) (s .control .vstart)
-      (o .passed + flag (isTrap (o .answer)
-      && pageTested (length (s .memory)) (elementAddress t (s .control .vstart + o .passed) 0) (t .bytes)))
+      (o .passed + flag (faultyTested t))
 
   abbrev pub planPages : Plan → ℕ
   planPages P.Illegal = 0
@@ -63,8 +70,8 @@ module _ (b : Board) (s : State) (o : Outcome) where
 abbrev pub nothingTested : Answer → Checked
 nothingTested a = record { answer = a; element = 0; pages = 0 }
 
--- "Either way it equals what a turn with enough allowance answers". Where the turn traps, vstart after it is the element; where it finishes,
--- 0. "Refusals: 32 to 36 and 2 as for a turn; any word but .. unit-stride access is 2"
+-- "Either way it equals what a turn with enough allowance answers". Where the turn traps, vstart after it is the element; where it
+-- finishes, that is 0. "Refusals: 32 to 36 and 2 as for a turn; any word but .. unit-stride access is 2"
 unfoldable pub accessCheckOf : Board → ℕ → State → Checked
 accessCheckOf b word s =
     let o : Outcome = turnOf b word (2 ^ 32 - 1) s in

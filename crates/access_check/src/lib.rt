@@ -72,7 +72,8 @@ fn elements(
         × MaskInside (length (now registers)) (board .vlenb) vstart (e .end - vstart) ⌝ }
     ensures { λ r. ⌜
         ((t : Transfer) → e .action ≡ Act.Transfer t
-        → Tested (activeOf (board .vlenb) (now (registers .entry)) (e .masked)) (now (rights .entry)) memory t vstart (e .end - vstart) r) ⌝ }
+        → Tested (activeOf (board .vlenb) (now (registers .entry)) (e .masked)) (now (rights .entry)) memory t vstart
+        (e .end - vstart) r) ⌝ }
 {
     let action = e.action;
     match action {

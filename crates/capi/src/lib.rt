@@ -55,8 +55,8 @@ pub extern "C" fn prashunde_turn(
     answer::number(answer)
 }
 
-// What an uncut turn of a unit-stride access would answer: the answer's number, the element and the number of pages tested. All that is lent
-// is as before.
+// What an uncut turn of a unit-stride access would answer: the answer's number, the element and the number of pages tested. All that is
+// lent for reading is as before.
 #[no_mangle]
 pub extern "C" fn prashunde_access_check(
     word: u32,

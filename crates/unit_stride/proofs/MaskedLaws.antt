@@ -21,7 +21,6 @@ use Rattle.access.specs.Access.{pageOf, accessOf}
 use Rattle.access.proofs.AccessLaws.{granted-facts}
 use Rattle.plan.specs.declared.Transfer.{Transfer}
 use Rattle.machine.specs.Effect.{elementAddress}
-use Rattle.unit_stride.specs.declared.Checked.{Checked}
 use Rattle.unit_stride.specs.declared.Tally.{Tally}
 use Rattle.unit_stride.specs.Pages.{pageTested}
 use Rattle.unit_stride.specs.Tested.{Packed, MaskInside, testOf, pagesFrom, Tested, talliedOf}
@@ -91,7 +90,9 @@ module _ (active : ℕ → Bool) (rights : List ℕ) (memory : ℕ) (t : Transfe
         where
           go : (q : Bool) → leb (c .next) (page (v + k)) ≡ q
               → Counted active page v (suc k) (talliedOf c true (page (v + k)) .pages) (talliedOf c true (page (v + k)) .next)
-          go true f = rw (f, add-one, add-one) (counted-new active page v k (c .pages) (c .next) (w .counted) e (leb-true (c .next) (page (v + k)) f))
+          go true f =
+              rw (f, add-one (c .pages), add-one (page (v + k)))
+              (counted-new active page v k (c .pages) (c .next) (w .counted) e (leb-true (c .next) (page (v + k)) f))
           go false f =
               rw f (counted-same active page v k (c .pages) (c .next) (w .counted) e
               (omega (arith, leb-false (c .next) (page (v + k)) f, w .ascending k (omega arith) l (h refl))))
@@ -119,7 +120,7 @@ module _ (active : ℕ → Bool) (rights : List ℕ) (memory : ℕ) (t : Transfe
       element-passed h =
           let e : (active (v + k) && inside (v + k)) ≡ active (v + k) = granted-tested (active (v + k)) refl h in
           let i : active (v + k) ≡ true → inside (v + k) ≡ true = λ p. sym (rw p) ∙ e ∙ p in
-          rw (e, add-one) (record {
+          rw (e, add-one k) (record {
             within = l;
             passed = λ j m. elim (decLt j k) [
               | yes y ↦ w .passed j y
@@ -136,7 +137,7 @@ module _ (active : ℕ → Bool) (rights : List ℕ) (memory : ℕ) (t : Transfe
 
       fault-pages : (q : Bool) → inside (v + k) ≡ q → active (v + k) ≡ true
           → pagesFrom active rights memory t v (k + flag q) ≡ talliedOf c q (page (v + k)) .pages
-      fault-pages true e a = rw add-one (tally-counted true a (λ z. e) .count)
+      fault-pages true e a = rw (add-one k) (tally-counted true a (λ z. e) .count)
       fault-pages false e a = rw add-zero (w .counted .count)
 
       element-faulted : (f : Fault) → testOf active rights memory t (v + k) ≡ Faulted f

@@ -1,17 +1,16 @@
 -- The elements of a unit-stride access lie one beside the other: where one is inside memory, the next is its size further on.
-use Prim.Native.Nat.{ℕ, zero, suc, _+_, _-_, _*_, _/_, _%_, _^_, _≤_, _<_, min}
-use mathlib.Core.Path.{_≡_, refl, sym, ap, _∙_}
-use mathlib.Core.Bool.{Bool, true, false, _&&_, cond}
+use Prim.Native.Nat.{ℕ, _+_, _-_, _*_, _%_, _^_, _≤_, _<_}
+use mathlib.Core.Path.{_≡_, sym, ap, _∙_}
+use mathlib.Core.Bool.{true, false}
 use mathlib.Core.List.{List}
 use native.Mathlib.Omega.{arith}
 use native.Mathlib.Nat.{mod-eq-of-lt, mul-le-mul-right}
 use native.Mathlib.Decide.{decLt}
 use lib.Dec.{T, ltb, leb, eqb}
 use borrow.Author.Tests.{leb-true, eq-eqb, le-leb, lt-leb, lt-ltb, le-ltb}
-use Rattle.laws.proofs.Apart.{both-left, both-right}
+use Rattle.laws.proofs.Apart.{both-right}
 use Rattle.layout.specs.Layout.{byteSize}
-use Rattle.layout.proofs.WidthLaws.{size-elim, size-pos}
-use Rattle.access.specs.Access.{pageOf}
+use Rattle.layout.proofs.WidthLaws.{size-elim}
 use Rattle.plan.specs.declared.Transfer.{Transfer}
 use Rattle.machine.specs.Effect.{elementAddress}
 use Rattle.unit_stride.specs.Pages.{pageTested}

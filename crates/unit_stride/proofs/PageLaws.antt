@@ -1,10 +1,9 @@
 -- The number of different pages, counted upward: where the pages of the active elements ascend, a page is new unless it is the last one.
-use Prim.Native.Nat.{ℕ, zero, suc, _+_, _≤_, _<_}
-use mathlib.Core.Path.{_≡_, refl, sym, ap, _∙_}
-use mathlib.Core.Bool.{Bool, true, false, not, _&&_, _||_, cond}
+use Prim.Native.Nat.{ℕ, suc, _+_, _≤_}
+use mathlib.Core.Path.{_≡_, refl}
+use mathlib.Core.Bool.{Bool, true, false, _||_}
 use native.Mathlib.Omega.{arith}
 use borrow.Author.Tests.{eq-eqb, ne-eqb}
-use Rattle.width.specs.Width.{flag}
 use Rattle.unit_stride.specs.Pages.{meets, differentPages}
 
 or-true : (b : Bool) → (b || true) ≡ true

@@ -3,15 +3,12 @@ use Prim.Native.Nat.{ℕ, _+_, _<_}
 use mathlib.Core.Path.{_≡_}
 use mathlib.Core.Bool.{Bool, true, false}
 use mathlib.Core.List.{List}
-use native.Mathlib.Omega.{arith}
 use Rattle.width.specs.Width.{flag}
 use Rattle.answer.specs.declared.Answer.{Answer}
 use Rattle.answer.specs.declared.Answer.the-variants.{Finished}
 use Rattle.access.specs.declared.Fault.{Fault}
 use Rattle.access.specs.declared.AccessTest.the-variants.{Granted, Faulted}
-use Rattle.plan.specs.declared.Action.{Action}
 use Rattle.plan.specs.declared.Action.the-variants as A
-use Rattle.plan.specs.declared.Compute.{Compute}
 use Rattle.plan.specs.declared.Transfer.{Transfer}
 use Rattle.machine.specs.Effect.{activeOf, elementAddress}
 use Rattle.unit_stride.specs.declared.Checked.{Checked}

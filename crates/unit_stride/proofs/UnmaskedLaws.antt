@@ -1,5 +1,5 @@
 -- A unit-stride access without a mask, by its pages: the start's alignment, how many elements lie inside memory, and the first closed page.
-use Prim.Native.Nat.{ℕ, zero, suc, _+_, _-_, _*_, _/_, _%_, _^_, _≤_, _<_, min}
+use Prim.Native.Nat.{ℕ, zero, suc, _+_, _-_, _*_, _/_, _%_, _≤_, _<_, min}
 use mathlib.Core.Path.{_≡_, refl, sym, ap, subst, _∙_}
 use mathlib.Core.Bool.{Bool, true, false, not}
 use mathlib.Core.List.{List}
@@ -17,12 +17,11 @@ use Rattle.layout.proofs.WidthLaws.{size-elim, size-pos}
 use Rattle.answer.specs.declared.Answer.{Answer}
 use Rattle.answer.specs.declared.Answer.the-variants.{Finished}
 use Rattle.access.specs.declared.Fault.{Fault}
-use Rattle.access.specs.declared.AccessTest.the-variants.{Granted, Faulted}
-use Rattle.access.specs.Access.{faultAt, pageOf, needed, misaligned, denied, accessOf}
+use Rattle.access.specs.declared.AccessTest.the-variants.{Granted}
+use Rattle.access.specs.Access.{pageOf, needed, misaligned, denied}
 use Rattle.access.proofs.AccessLaws.{is-aligned, facts-granted, not-aligned, past-memory, no-right}
 use Rattle.plan.specs.declared.Transfer.{Transfer}
 use Rattle.machine.specs.Effect.{elementAddress}
-use Rattle.unit_stride.specs.declared.Checked.{Checked}
 use Rattle.unit_stride.specs.Pages.{differentPages}
 use Rattle.unit_stride.specs.Tested.{Packed, Begun, all, testOf, pagesFrom, Tested, FirstClosed}
 use Rattle.unit_stride.proofs.PageLaws.{Counted, counted-none, counted-same, counted-new}
@@ -210,6 +209,9 @@ module _ (rights : List ℕ) (memory : ℕ) (t : Transfer) (v n : ℕ) (g : Pack
       pub last-page : (start + (inside - 1) * t .bytes) / 256 < 256
       last-page = omega (arith, last-within, g .memory-length, size-pos (t .bytes) (g .size))
 
+      pub pages-fit : Fits w64 ((start + (inside - 1) * t .bytes) / 256 - start / 256 + 1)
+      pages-fit = record { fits = omega (arith, last-page) }
+
       module _ (closed right : ℕ) (r : right ≡ needed (t .store))
           (c : FirstClosed rights right (start / 256) ((start + (inside - 1) * t .bytes) / 256) closed) where
         pub page-fits : Fits w64 (256 * closed)
@@ -235,7 +237,7 @@ module _ (rights : List ℕ) (memory : ℕ) (t : Transfer) (v n : ℕ) (g : Pack
             (rw (there k m) (sym (no-right rights memory (t .store) (at k) (t .bytes) (multiple k)
             right (omega (arith, within k m, size-pos (t .bytes) (g .size))) r _ (denied (t .store)) (rw o (c .closed l)) refl refl)))
             (sym p) (ap (λ (y : ℕ). v + y / t .bytes) (sym e))
-            (rw (there k m, page-tested memory (at k) (t .bytes) (multiple k) (within k m), add-one)
+            (rw (there k m, page-tested memory (at k) (t .bytes) (multiple k) (within k m), add-one k)
             (counted k m .count ∙ rw o (omega (arith, c .least))))
           where
             k : ℕ
@@ -272,7 +274,8 @@ module _ (rights : List ℕ) (memory : ℕ) (t : Transfer) (v n : ℕ) (g : Pack
               (rw (w, untested-outside memory (at inside) (t .bytes) (multiple inside) o, add-zero) all-pages)
 
           pub at-clear : n ≤ inside
-              → Tested all rights memory t v n (record { answer = Finished; element = 0; pages = pageOf (at (inside - 1)) - start / 256 + 1 })
+              → Tested all rights memory t v n
+              (record { answer = Finished; element = 0; pages = pageOf (at (inside - 1)) - start / 256 + 1 })
           at-clear l =
               let e : inside ≡ n = omega (arith, h .inside-are) in
               finishes all rights memory t v n _ (λ j m. all-open j (omega arith)) (rw (← e) all-pages)

@@ -1,8 +1,8 @@
 // Runs instruction vectors through the public calls. Standard input has records of lines: 'c' a case (word, allowance, the fields of the
 // control record, and the lengths of the register file, the scalars, memory and the rights), 'x' a scalar, 'v' bytes of a register, 'p' the
-// right of a range of pages, and then '.', upon which the turn is taken, or '?', upon which the access check is made. Of a turn it writes the
-// answer, the number passed, the fault address, the control record after, and every byte or scalar that has changed; of a check the answer,
-// the element and the number of pages.
+// right of a range of pages, and then '.', upon which the turn is taken, or '?', upon which the access check is made. Of a turn it writes
+// the answer, the number passed, the fault address, the control record after, and every byte or scalar that has changed; of a check the
+// answer, the element and the number of pages.
 ghost use mathlib.Core.Path.{_≡_};
 ghost use Prim.Native.Nat.{_≤_};
 ghost use lib.ListN.{length};

@@ -29,9 +29,9 @@ check-on-spec =
     let decoded = tested .before in
     let accepted = decoded .before in
     let start = accepted .before .before .before .before .before .before .before in
-    elements-ready _ _ (start .args .registers .now) _ (start .args .memory .now) _ _ _ _ _ (accepted .before .before .refusal-on .ensures) (accepted .enum-told .given .1)
-    (decoded .decode .ensures) (tested .is-unit-stride .ensures) (plan .before .if1 .left) _ (plan .checked .ensures) _
-    (start .pre) (c .before .e .given .1))
+    elements-ready _ _ (start .args .registers .now) _ (start .args .memory .now) _ _ _ _ _ (accepted .before .before .refusal-on .ensures)
+    (accepted .enum-told .given .1) (decoded .decode .ensures) (tested .is-unit-stride .ensures) (plan .before .if1 .left) _
+    (plan .checked .ensures) _ (start .pre) (c .before .e .given .1))
     (λ c. search illegal-word)
     (λ c. search (no-one-turn, decoded-fits))
     (λ c.

@@ -1,7 +1,7 @@
 use native.Mathlib.Omega.{arith}
 use borrow.Author.Needs.{needs}
 use Rattle.layout.proofs.WidthLaws.{size-pos}
-use Rattle.unit_stride.proofs.UnmaskedLaws.{span-fits, last-fits, first-last, last-page, page-fits, element-fits}
+use Rattle.unit_stride.proofs.UnmaskedLaws.{span-fits, last-fits, first-last, last-page, pages-fit, page-fits, element-fits}
 use Rattle.unit_stride.proofs.UnmaskedLaws.{at-closed, at-end, at-clear}
 use Rattle.unit_stride.proofs.by_pages.Statement.{statement}
 use Rattle.unit_stride.proofs.by_pages.Tie as tie
@@ -26,9 +26,10 @@ by-pages-spec =
     let found = c .before .before .before in
     let start = found .before .before .before in
     at-closed _ _ _ _ _ (start .pre .0) _ _ (start .pre .1 .0) (start .pre .1 .1) _ _ (found .before .right-needed .ensures)
-    (found .first-closed .ensures) _ _ (omega (arith, c .before .before .if1 .taken)) (c .before .less .ensures) (c .denied-answer .ensures))
+    (found .first-closed .ensures) _ _ (omega (arith, c .before .before .if1 .taken)) (c .before .less .ensures)
+    (c .denied-answer .ensures))
     (λ c. search needs)
-    (λ c. search needs)
+    (λ c. search pages-fit)
     (λ c κs. search needs)
     (λ c. search needs)
     (λ c.
