@@ -145,7 +145,7 @@ module _ (b : Board) (word : ℕ) (s : State) where
   abbrev from : Point (semanticsOf b (planAt b word s))
   from = pointOf b (planAt b word s) s
 
-  rejected-with : (a : Answer) → rejectionAt b (planAt b word s) (s .rights) (coreOf s) (s .control .vstart) ≡ some a
+  pub rejected-with : (a : Answer) → rejectionAt b (planAt b word s) (s .rights) (coreOf s) (s .control .vstart) ≡ some a
       → nothingTested a ≡ accessCheckOf b word s
   unfolding accessCheckOf turnOf
   rejected-with a h =

@@ -1,9 +1,10 @@
 -- What the access check says beforehand of the turn holds of the definition, on every board that the machine is for.
 use Prim.Native.Nat.{ℕ, _-_, _^_, _≤_, min}
 use mathlib.Core.Path.{_≡_, refl, sym, ap, subst}
-use mathlib.Core.Bool.{true, false, _&&_}
+use mathlib.Core.Bool.{Bool, true, false, _&&_}
 use mathlib.Core.Option.{Option, none, some}
 use native.Mathlib.Omega.{arith}
+use lib.ListN.{length}
 use lib.Dec.{T}
 use Rattle.laws.proofs.Apart.{both-left}
 use Rattle.laws.proofs.Chain.{either}
@@ -13,22 +14,29 @@ use Rattle.answer.specs.declared.Answer.the-variants.{LoadMisaligned, LoadAcces
 use Rattle.answer.specs.declared.Answer.the-variants.{BadRegisters, BadScalars, BadMemory, BadRights, BadControl, NoGroup}
 use Rattle.control.specs.declared.Board.{Board}
 use Rattle.control.specs.Board.{Valid, base}
-use Rattle.control.proofs.Laws.{base-valid, possible-apart}
+use Rattle.control.proofs.Laws.{base-valid, Possible, possible-apart}
 use Rattle.decode.specs.Word.{decodeOf}
 use Rattle.decode.proofs.Fields.{fits}
+use Rattle.plan.specs.declared.Transfer.{Transfer}
+use Rattle.plan.specs.declared.OneTurn.{OneTurn}
 use Rattle.plan.specs.declared.Plan.{Plan}
+use Rattle.plan.specs.declared.Plan.the-variants as P
 use Rattle.turn_theory.specs.Turn.{Semantics, paused, Point, Turn, remaining, answered, legal, turn}
 use Rattle.turn_theory.proofs.Laws.{turn-cases}
 use Rattle.machine.specs.State.{State, Outcome, coreOf}
+use Rattle.machine.specs.Effect.{activeOf}
 use Rattle.machine.specs.Machine.{rejectionAt, semanticsOf, answerOf, outcomeOf, endOf, planAt, turnOf}
 use Rattle.machine.specs.Demands.{isTrap, changesNothing}
 use Rattle.machine.proofs.PlanFacts.{plan-sound}
 use Rattle.machine.proofs.Lawful.{facts, lawful}
 use Rattle.machine.proofs.Demands.{apart, turnWith, pointOf, answer-cases, counted}
+use Rattle.element_loop.specs.Runnable.{Runnable}
 use Rattle.unit_stride.specs.declared.Checked.{Checked}
+use Rattle.unit_stride.proofs.FewPages.{found, at-most-two}
 use Rattle.access_check.specs.AccessCheck.{isUnitStride, planPages, nothingTested, accessCheckOf}
 use Rattle.access_check.specs.Foretold.{Foretold}
-use Rattle.access_check.proofs.CheckLaws.{other-check}
+use Rattle.access_check.proofs.CheckLaws.{rejected-with, other-check, tested-check}
+use Rattle.access_check.proofs.WordLaws.{PlanUnit, plan-unit, is-packed}
 
 -- ---- two turns of which each may pass all that remains
 
@@ -69,11 +77,16 @@ module _ (b : Board) (w : Valid b) (word : ℕ) (s : State) where
   abbrev J : Semantics
   J = semanticsOf b plan
 
+  abbrev rejection : Plan → Option Answer
+  rejection p = rejectionAt b p (s .rights) (coreOf s) (s .control .vstart)
+
+  possible : rejection plan ≡ none → Possible b (s .control)
+  possible h = possible-apart b (s .control) (facts b plan (s .rights) (coreOf s) (s .control .vstart) h .acceptable .possible)
+
   -- no more elements remain than an uncut turn may pass
-  few : rejectionAt b plan (s .rights) (coreOf s) (s .control .vstart) ≡ none → remaining J (pointOf b plan s) ≤ 2 ^ 32 - 1
+  few : rejection plan ≡ none → remaining J (pointOf b plan s) ≤ 2 ^ 32 - 1
   few h =
-      let possible = possible-apart b (s .control) (facts b plan (s .rights) (coreOf s) (s .control .vstart) h .acceptable .possible) in
-      let sound = plan-sound b (s .scalars) (s .control) (decodeOf word) w possible (fits word) in
+      let sound = plan-sound b (s .scalars) (s .control) (decodeOf word) w (possible h) (fits word) in
       omega (arith, lawful b w plan sound .bounded (s .rights) (coreOf s) (s .control .vstart) h)
 
   uncut-same : (n : ℕ) → endOf plan - s .control .vstart ≤ n → turnOf b word n s ≡ turnOf b word (2 ^ 32 - 1) s
@@ -137,6 +150,43 @@ module _ (b : Board) (w : Valid b) (word : ℕ) (s : State) where
   nothing = by-outcome (λ c. changesNothing (c .answer) ≡ true → c ≡ nothingTested (c .answer))
       (λ t e. refl) (λ t u e. absurd (subst T t (subst T (sym e) tt))) (λ u e. refl)
 
+  -- ---- at most two pages
+
+  abbrev TwoPages : Type 0
+  TwoPages = accessCheckOf b word s .pages ≤ 2
+
+  unit-pages : rejection plan ≡ none → isUnitStride (decodeOf word) ≡ true → TwoPages
+  unit-pages h u =
+      at-plan plan refl (plan-unit b (s .scalars) (s .control) w (possible h) (decodeOf word) (fits word) u)
+    where
+      at-plan : (p : Plan) → plan ≡ p → PlanUnit b p → TwoPages
+      at-plan P.Illegal q v = absurd v
+      at-plan (P.OneTurn t) q v = absurd v
+      at-plan (P.Elements e) q v =
+          let legal : rejection (P.Elements e) ≡ none = subst (λ (p : Plan). rejection p ≡ none) q h in
+          let runs : Runnable b s e = record { valid = w; word = decodeOf word; fits = fits word; plan = q; is-legal = legal } in
+          let t : Transfer = v .transfer in
+          let packed = is-packed b (s .registers) (s .scalars) (s .memory) (s .rights) (s .control) e runs (decodeOf word) (fits word) q u t
+          (v .stepping .action) in
+          let n : ℕ = e .end - s .control .vstart in
+          let active = activeOf (b .vlenb) (s .registers) (e .masked) in
+          let r = found active (s .rights) (length (s .memory)) t (s .control .vstart) n in
+          rw (← tested-check b s e t (v .stepping) legal (omega arith) word (r .result) q u (r .tested))
+          (at-most-two active (s .rights) (length (s .memory)) t (s .control .vstart) n packed (r .result) (r .tested))
+
+  two-pages : TwoPages
+  two-pages = at-rejection (rejection plan) refl
+    where
+      at-unit : rejection plan ≡ none → (u : Bool) → isUnitStride (decodeOf word) ≡ u
+          → TwoPages
+      at-unit h true e = unit-pages h e
+      at-unit h false e =
+          by-outcome (λ c. c .pages ≤ 2) (λ t. omega arith) (λ t u. absurd (subst T e (subst T (sym u) tt))) (λ u. omega arith)
+
+      at-rejection : (x : Option Answer) → rejection plan ≡ x → TwoPages
+      at-rejection none h = at-unit h (isUnitStride (decodeOf word)) refl
+      at-rejection (some a) h = rw (← rejected-with b word s a h) (omega arith)
+
 pub foretold-on : (b : Board) → Valid b → Foretold b
 foretold-on b w = record {
   finishes = λ word s. finishes b w word s;
@@ -144,6 +194,7 @@ foretold-on b w = record {
   unpaused = λ word s. unpaused b w word s;
   same-answer = λ word s. same-answer b w word s;
   enough = λ word n s. uncut-same b w word s n;
+  two-pages = λ word s. two-pages b w word s;
   other-words = λ word s h u. sym (other-check b word s h u);
   nothing = λ word s. nothing b w word s;
 }

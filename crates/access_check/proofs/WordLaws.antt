@@ -1,11 +1,14 @@
 -- The check of a word by the tests of the code: refused, another word, illegal, or the elements of a unit-stride access.
-use Prim.Native.Nat.{ℕ, _+_, _-_, _≤_, _<_}
+use Prim.Native.Nat.{ℕ, _+_, _-_, _*_, _/_, _≤_, _<_}
 use mathlib.Core.Path.{_≡_, refl, sym, ap, subst, _∙_}
-use mathlib.Core.Bool.{Bool, true, false, not}
+use mathlib.Core.Bool.{Bool, true, false, not, _||_}
 use mathlib.Core.List.{List}
+use mathlib.Core.Logic.{⊎-elim}
 use native.Mathlib.Omega.{arith}
+use native.Mathlib.Nat.{mul-le-mul-left, mul-le-mul-right, div-mul-le-self}
+use native.Mathlib.Decide.{decLt}
 use lib.ListN.{length}
-use lib.Dec.{T}
+use lib.Dec.{T, eqb}
 use borrow.Author.Tests.{eqb-true, not-true, not-false}
 use Rattle.answer.specs.declared.Answer.{Answer}
 use Rattle.answer.specs.declared.Answer.the-variants.{Illegal}
@@ -14,14 +17,18 @@ use Rattle.answer.specs.declared.Verdict.the-variants.{Accepted, Refused}
 use Rattle.control.specs.declared.Board.{Board}
 use Rattle.control.specs.declared.Control.{Control}
 use Rattle.control.specs.Board.{Valid, base}
-use Rattle.control.proofs.Laws.{possible-apart}
+use Rattle.control.specs.Vtype.{vlmaxOf}
+use Rattle.control.proofs.Laws.{Possible, possible-apart}
 use Rattle.decode.specs.declared.Access.{Access}
 use Rattle.decode.specs.declared.Mode.{Mode}
 use Rattle.decode.specs.declared.Mode.the-variants as M
 use Rattle.decode.specs.declared.Instruction.{Instruction}
 use Rattle.decode.specs.declared.Instruction.the-variants as I
 use Rattle.decode.specs.Word.{decodeOf}
-use Rattle.decode.specs.Fields.{AccessFits, Fits}
+use Rattle.decode.specs.Fields.{ModeFits, AccessFits, Fits}
+use Rattle.group.specs.Group.{registersOf, placedOf}
+use Rattle.group.proofs.GroupLaws.{placed-facts}
+use Rattle.laws.proofs.Apart.{or-cases}
 use Rattle.layout.specs.Layout.{byteSize, Inside}
 use Rattle.layout.proofs.WidthLaws.{bytes-size}
 use Rattle.refusal.specs.Refusal.{refusalOf}
@@ -34,15 +41,17 @@ use Rattle.plan.specs.declared.OneTurn.{OneTurn}
 use Rattle.plan.specs.declared.Plan.{Plan}
 use Rattle.plan.specs.declared.Plan.the-variants as P
 use Rattle.plan.specs.Plan.{movingOf, byMode, planOf}
-use Rattle.plan.proofs.AccessLaws.{eew-low}
-use Rattle.legality.specs.Legal.{legalOf, checkedOf}
+use Rattle.plan.proofs.AccessLaws.{eew-low, whole-le}
+use Rattle.legality.specs.Legal.{legalOf, checkedOf, operandsFit}
+use Rattle.legality.proofs.LegalLaws.{elements-of-legal}
 use Rattle.machine.specs.State.{State}
 use Rattle.machine.specs.Call.{given}
 use Rattle.machine.specs.Effect.{activeOf}
-use Rattle.machine.proofs.PlanFacts.{eew-width}
+use Rattle.machine.proofs.PlanFacts.{legal-at, typed-extent, unit-typed, eew-width}
+use Rattle.machine.proofs.Lawful.{elements-fit}
 use Rattle.element_loop.specs.Runnable.{Runnable}
 use Rattle.element_loop.proofs.LoopLaws.{the-facts, the-sound, next-prepared}
-use Rattle.turn.proofs.Turns.{decoded-fits, illegal-checked, one-turn-planned, elements-planned, elements-runnable}
+use Rattle.turn.proofs.Turns.{accepted-possible, decoded-fits, illegal-checked, one-turn-planned, elements-planned, elements-runnable}
 use Rattle.unit_stride.specs.declared.Checked.{Checked}
 use Rattle.access_check.specs.AccessCheck.{isUnitStride, unitStrideMode, nothingTested, accessCheckOf}
 use Rattle.unit_stride.specs.Tested.{Packed, MaskInside, Tested}
@@ -63,62 +72,117 @@ of-transfer vlenb file rights memory v n m masked r a t u e f q h = rw (← q, �
 
 -- ---- the plan of a unit-stride access
 
-record UnitPlan (e : Elementwise) : Type 0 where
-  transfer : Transfer
-  stepping : Stepping e transfer
+pub record UnitPlan (b : Board) (e : Elementwise) : Type 0 where
+  pub transfer : Transfer
+  pub stepping : Stepping e transfer
   size : T (byteSize (transfer .bytes))
   stride : transfer .stride ≡ transfer .bytes
+  -- no more bytes than eight registers have
+  short : operandsFit (b .elen) e ≡ true → e .end * transfer .bytes ≤ 8 * b .vlenb
 
-abbrev PlanUnit : Plan → Type 0
-PlanUnit P.Illegal = ⊥
-PlanUnit (P.OneTurn t) = ⊥
-PlanUnit (P.Elements e) = UnitPlan e
+abbrev pub PlanUnit : Board → Plan → Type 0
+PlanUnit b P.Illegal = ⊥
+PlanUnit b (P.OneTurn t) = ⊥
+PlanUnit b (P.Elements e) = UnitPlan b e
 
-module _ (b : Board) (x : List ℕ) (c : Control) where
-  mode-unit : (a : Access) → AccessFits a → (m : Mode) → unitStrideMode m (a .nf) ≡ true → UnitPlan (byMode b x c a m)
+-- elements of so many bits, in bytes
+in-bytes : (n eew vlenb : ℕ) → n * eew ≤ 8 * (8 * vlenb) → n * (eew / 8) ≤ 8 * vlenb
+in-bytes n eew vlenb l =
+    let m : n * (8 * (eew / 8)) ≤ n * eew = mul-le-mul-left n (omega arith) in
+    omega arith
+
+module _ (b : Board) (x : List ℕ) (c : Control) (w : Valid b) (t : Possible b c) where
+  unit-short : (a : Access) → AccessFits a → operandsFit (b .elen) (byMode b x c a M.UnitStride) ≡ true
+      → c .vl * (a .eew / 8) ≤ 8 * b .vlenb
   unfolding byMode movingOf
-  mode-unit a f M.UnitStride h =
+  unit-short a f h = go (decLt 0 (c .vl))
+    where
+      e : Elementwise
+      e = byMode b x c a M.UnitStride
+
+      dest-fits : (eqb (e .dest .eew) 1 || placedOf (b .elen) (e .dest)) ≡ true
+      dest-fits = legal-at (b .elen) e h .dest
+
+      placed : placedOf (b .elen) (e .dest) ≡ true
+      placed = ⊎-elim (λ q. absurd (omega (arith, eqb-true (a .eew) 1 q, eew-low a f))) (λ q. q) (or-cases (eqb (a .eew) 1) _ dest-fits)
+
+      go : Dec (0 < c .vl) → c .vl * (a .eew / 8) ≤ 8 * b .vlenb
+      go (yes l) =
+          let y = unit-typed b x c a w t f l in
+          let within : vlmaxOf b (c .vtype) * a .eew ≤ registersOf (e .dest) * (8 * b .vlenb) =
+          typed-extent b (c .vtype) e w y dest-fits .within in
+          let eight : registersOf (e .dest) ≤ 8 = omega (arith, placed-facts (b .elen) (e .dest) placed .emul-high) in
+          in-bytes (c .vl) (a .eew) (b .vlenb) (omega (
+            arith,
+            mul-le-mul-right (a .eew) (y .end),
+            mul-le-mul-right (8 * b .vlenb) eight,
+          ))
+      go (no l) = let z : c .vl ≡ 0 = omega arith in omega (arith, ap (λ (n : ℕ). n * (a .eew / 8)) z)
+
+  mode-unit : (a : Access) → AccessFits a → (m : Mode) → ModeFits m → unitStrideMode m (a .nf) ≡ true → UnitPlan b (byMode b x c a m)
+  unfolding byMode movingOf
+  mode-unit a f M.UnitStride k h =
       let z : a .nf ≡ 0 = eqb-true (a .nf) 0 h in
       record {
         transfer = _;
         stepping = record { offset = refl; single = z; action = refl };
         size = bytes-size (a .eew) (eew-width a f) (omega (arith, eew-low a f));
         stride = rw z (omega arith);
+        short = unit-short a f;
       }
-  mode-unit a f (M.Strided r) h = absurd (subst T (sym h) tt)
-  mode-unit a f (M.Indexed r) h = absurd (subst T (sym h) tt)
-  mode-unit a f M.MaskBytes h =
-      record { transfer = _; stepping = record { offset = refl; single = refl; action = refl }; size = tt; stride = refl }
-  mode-unit a f (M.Whole n) h = record {
+  mode-unit a f (M.Strided r) k h = absurd (subst T (sym h) tt)
+  mode-unit a f (M.Indexed r) k h = absurd (subst T (sym h) tt)
+  mode-unit a f M.MaskBytes k h = record {
+    transfer = _;
+    stepping = record { offset = refl; single = refl; action = refl };
+    size = tt;
+    stride = refl;
+    short = λ q. omega (arith, t .vl, w .some);
+  }
+  mode-unit a f (M.Whole n) k h = record {
     transfer = _;
     stepping = record { offset = refl; single = refl; action = refl };
     size = bytes-size (a .eew) (eew-width a f) (omega (arith, eew-low a f));
     stride = refl;
+    short = λ q. in-bytes (n * (8 * b .vlenb) / a .eew) (a .eew) (b .vlenb) (omega (
+      arith,
+      div-mul-le-self (n * (8 * b .vlenb)) (a .eew),
+      mul-le-mul-right (8 * b .vlenb) (whole-le n k),
+    ));
   }
 
-  plan-unit : (i : Instruction) → Fits i → isUnitStride i ≡ true → PlanUnit (planOf b x c i)
+  pub plan-unit : (i : Instruction) → Fits i → isUnitStride i ≡ true → PlanUnit b (planOf b x c i)
   unfolding planOf
   plan-unit I.Illegal f h = absurd (subst T (sym h) tt)
   plan-unit (I.Setting s) f h = absurd (subst T (sym h) tt)
   plan-unit (I.Mask m) f h = absurd (subst T (sym h) tt)
   plan-unit (I.Arithmetic a) f h = absurd (subst T (sym h) tt)
-  plan-unit (I.Memory a) f h = mode-unit a f (a .mode) h
+  plan-unit (I.Memory a) f h = mode-unit a f (a .mode) (f .mode) h
 
 -- ---- what the elements rely on
 
 module _ (b : Board) (file x memory rights : List ℕ) (c : Control) (e : Elementwise) (l : Runnable b (given file x memory rights c) e)
     (d : Instruction) (f : Fits d) (p : planOf b x c d ≡ P.Elements e) (u : isUnitStride d ≡ true) where
-  unit-plan : UnitPlan e
-  unit-plan = subst PlanUnit p (plan-unit b x c d f u)
+  possible : Possible b c
+  possible = possible-apart b c (the-facts b e file x memory rights c 0 l .acceptable .possible)
+
+  unit-plan : UnitPlan b e
+  unit-plan = subst (PlanUnit b) p (plan-unit b x c (l .valid) possible d f u)
 
   few-elements : e .end ≤ 128
   few-elements = omega (arith, the-sound b e file x memory rights c 0 l .end, l .valid .most)
 
   early : c .vstart < 128
-  early =
-      omega (arith, possible-apart b c (the-facts b e file x memory rights c 0 l .acceptable .possible) .vstart, l .valid .most)
+  early = omega (arith, possible .vstart, l .valid .most)
 
-  is-packed : (t : Transfer) → e .action ≡ A.Transfer t → Packed rights (length memory) t (c .vstart) (e .end - c .vstart)
+  few-bytes : (e .end - c .vstart) * unit-plan .transfer .bytes ≤ 128
+  few-bytes =
+      let n : ℕ = unit-plan .transfer .bytes in
+      let rest : (e .end - c .vstart) * n ≤ e .end * n = mul-le-mul-right n (omega arith) in
+      let fit = elements-fit b c e (elements-of-legal b c e (the-facts b e file x memory rights c 0 l .legal)) in
+      omega (arith, rest, unit-plan .short fit, l .valid .most)
+
+  pub is-packed : (t : Transfer) → e .action ≡ A.Transfer t → Packed rights (length memory) t (c .vstart) (e .end - c .vstart)
   is-packed t q =
       let a = the-facts b e file x memory rights c 0 l .acceptable in
       subst (λ (y : Transfer). Packed rights (length memory) y (c .vstart) (e .end - c .vstart))
@@ -129,6 +193,7 @@ module _ (b : Board) (file x memory rights : List ℕ) (c : Control) (e : Elemen
         size = unit-plan .size;
         stride = unit-plan .stride;
         few = omega (arith, few-elements, early);
+        short = few-bytes;
       })
 
   mask-inside : MaskInside (length file) (b .vlenb) (c .vstart) (e .end - c .vstart)
@@ -172,8 +237,10 @@ module _ (b : Board) (word : ℕ) (file x memory rights : List ℕ) (c : Control
           (subst (λ (y : Instruction). legalOf b c (planOf b x c y) ≡ false) k (illegal-checked b c (planOf b x c d) (sym w ∙ f)))
 
       -- a unit-stride access does not take one turn
-      pub no-one-turn : (r : Checked) (t : OneTurn) → Fits d → p ≡ P.OneTurn t → r ≡ accessCheckOf b word before
-      no-one-turn r t f e = absurd (subst PlanUnit (one-turn-planned b x c d p w t e .0) (plan-unit b x c d f is-unit))
+      pub no-one-turn : (r : Checked) (t : OneTurn) → Valid b → Fits d → p ≡ P.OneTurn t → r ≡ accessCheckOf b word before
+      no-one-turn r t g f e =
+          let possible = accepted-possible b (length file) (length x) (length memory) rights c v q h in
+          absurd (subst (PlanUnit b) (one-turn-planned b x c d p w t e .0) (plan-unit b x c g possible d f is-unit))
 
       module _ (e : Elementwise) (g : Valid b) (f : p ≡ P.Elements e) where
         runs : Runnable b before e

@@ -30,6 +30,8 @@ pub record Foretold (b : Board) : Type 0 where
   -- enough allowance: where no more elements remain than a turn may pass, it is the uncut one
   pub enough : (word n : ℕ) (s : State) → endOf (planAt b word s) - s .control .vstart ≤ n
       → turnOf b word n s ≡ turnOf b word (2 ^ 32 - 1) s
+  -- "each page once": an access has at most 128 bytes, so there are at most two
+  pub two-pages : (word : ℕ) (s : State) → accessCheckOf b word s .pages ≤ 2
   -- "any word but a plain, mask or whole-register unit-stride access is 2", on every state that is not refused
   pub other-words : (word : ℕ) (s : State)
       → refusalOf b (length (s .registers)) (length (s .scalars)) (length (s .memory)) (s .rights) (s .control) ≡ Accepted

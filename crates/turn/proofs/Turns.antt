@@ -51,8 +51,8 @@ module _ (b : Board) (registers scalars memory : ℕ) (rights : List ℕ) (c : C
   accepted : refusalOf b registers scalars memory rights c ≡ Accepted
   accepted = sym q ∙ h
 
-  possible : Possible b c
-  possible = possible-apart b c (accepted-facts b registers scalars memory rights c accepted .possible)
+  pub accepted-possible : Possible b c
+  accepted-possible = possible-apart b c (accepted-facts b registers scalars memory rights c accepted .possible)
 
   pub accepted-registers : registers ≡ 32 * b .vlenb
   accepted-registers = accepted-facts b registers scalars memory rights c accepted .registers-length
@@ -63,13 +63,13 @@ module _ (b : Board) (registers scalars memory : ℕ) (rights : List ℕ) (c : C
   -- with vill set, SEW by its bits is 8
   pub accepted-sew : Valid b → sewOf (c .vtype) ≤ 64
   accepted-sew w =
-      ⊎-elim (λ e. rw (e .0) (omega arith)) (λ e. supported-sew-le b (c .vtype) w (e .0)) (typed-well-apart b c (possible .typed))
+      ⊎-elim (λ e. rw (e .0) (omega arith)) (λ e. supported-sew-le b (c .vtype) w (e .0)) (typed-well-apart b c (accepted-possible .typed))
 
   pub accepted-bits : c .vl ≤ 8 * b .vlenb
-  accepted-bits = possible .vl
+  accepted-bits = accepted-possible .vl
 
   pub accepted-vl : Valid b → c .vl ≤ 128
-  accepted-vl w = omega (arith, possible .vl, w .most)
+  accepted-vl w = omega (arith, accepted-possible .vl, w .most)
 
 pub decoded-fits : (word : ℕ) (d : Instruction) → d ≡ decodeOf word → Fits d
 decoded-fits word d e = rw e (Decoded.fits word)

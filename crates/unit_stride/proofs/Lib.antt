@@ -3,3 +3,4 @@ pub mod PackedLaws
 pub mod TestedLaws
 pub mod UnmaskedLaws
 pub mod MaskedLaws
+pub mod FewPages

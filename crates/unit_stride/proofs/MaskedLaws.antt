@@ -1,6 +1,6 @@
 -- A unit-stride access under a mask, one element after the other: what the loop keeps, and how each way out meets the contract.
-use Prim.Native.Nat.{ℕ, suc, _+_, _-_, _*_, _/_, _^_, _≤_, _<_}
-use mathlib.Core.Path.{_≡_, refl, sym, ap, _∙_}
+use Prim.Native.Nat.{ℕ, suc, _+_, _/_, _^_, _≤_, _<_}
+use mathlib.Core.Path.{_≡_, refl, sym, _∙_}
 use mathlib.Core.Bool.{Bool, true, false, _&&_, cond}
 use mathlib.Core.List.{List}
 use native.Mathlib.Omega.{arith}
@@ -18,15 +18,14 @@ use Rattle.access.specs.declared.Fault.{Fault}
 use Rattle.access.specs.declared.AccessTest.{AccessTest}
 use Rattle.access.specs.declared.AccessTest.the-variants.{Granted, Faulted}
 use Rattle.access.specs.Access.{pageOf, accessOf}
-use Rattle.access.proofs.AccessLaws.{granted-facts}
 use Rattle.plan.specs.declared.Transfer.{Transfer}
 use Rattle.machine.specs.Effect.{elementAddress}
 use Rattle.unit_stride.specs.declared.Tally.{Tally}
 use Rattle.unit_stride.specs.Pages.{pageTested}
 use Rattle.unit_stride.specs.Tested.{Packed, MaskInside, testOf, pagesFrom, Tested, talliedOf}
 use Rattle.unit_stride.proofs.PageLaws.{Counted, counted-none, counted-inactive, counted-same, counted-new}
-use Rattle.unit_stride.proofs.PackedLaws.{tested-inside, page-tested, onward}
-use Rattle.unit_stride.proofs.TestedLaws.{finishes, faults}
+use Rattle.unit_stride.proofs.PackedLaws.{later}
+use Rattle.unit_stride.proofs.TestedLaws.{finishes, faults, granted-inside}
 
 -- ---- one page more, or not
 
@@ -74,12 +73,7 @@ module _ (active : ℕ → Bool) (rights : List ℕ) (memory : ℕ) (t : Transfe
   module _ (g : Packed rights memory t v n) where
     -- addresses of elements inside memory ascend, and so do their pages
     later-page : (k j : ℕ) → k ≤ j → j < n → inside (v + k) ≡ true → page (v + k) ≤ page (v + j)
-    later-page k j l m h =
-        let i : elementAddress t (v + k) 0 + t .bytes ≤ memory = tested-inside memory _ _ h in
-        let e : v + k + (j - k) ≡ v + j = omega arith in
-        let o : elementAddress t (v + j) 0 ≡ elementAddress t (v + k) 0 + (j - k) * t .bytes =
-        ap (λ (x : ℕ). elementAddress t x 0) (sym e) ∙ onward rights memory t v n g (v + k) (j - k) (omega (arith, g .few)) (omega arith) in
-        omega (arith, o)
+    later-page k j l m h = omega (arith, later rights memory t v n g k j l m h)
 
     module _ (k : ℕ) (c : Tally) (w : Walking k c) (l : k < n) where
       -- the tally with element k, of which the page is tested where it is active
@@ -109,9 +103,7 @@ module _ (active : ℕ → Bool) (rights : List ℕ) (memory : ℕ) (t : Transfe
       -- an element that is granted: its page is tested where it is active
       granted-tested : (p : Bool) → active (v + k) ≡ p → testOf active rights memory t (v + k) ≡ Granted → (p && inside (v + k)) ≡ p
       granted-tested false e h = refl
-      granted-tested true e h =
-          let f = granted-facts rights memory (t .store) (elementAddress t (v + k) 0) (t .bytes) (rw e at h) in
-          page-tested memory _ _ (f .aligned) (f .inside)
+      granted-tested true e h = granted-inside active rights memory t (v + k) e h
 
       abbrev seen : Tally
       seen = talliedOf c (active (v + k) && inside (v + k)) (page (v + k))

@@ -61,3 +61,11 @@ module _ (rights : List ℕ) (memory : ℕ) (t : Transfer) (v n : ℕ) (g : Pack
   -- an address in memory does not wrap within an access
   pub onward : (i j : ℕ) → j ≤ 256 → address i ≤ memory → address (i + j) ≡ address i + j * t .bytes
   onward i j l h = further i j ∙ mod-eq-of-lt (omega (arith, few-bytes j l, g .memory-length))
+
+  -- the addresses of the elements after one inside memory
+  pub later : (k j : ℕ) → k ≤ j → j < n → pageTested memory (address (v + k)) (t .bytes) ≡ true
+      → address (v + j) ≡ address (v + k) + (j - k) * t .bytes
+  later k j l m h =
+      let e : v + k + (j - k) ≡ v + j = omega arith in
+      let i : address (v + k) + t .bytes ≤ memory = tested-inside memory (address (v + k)) (t .bytes) h in
+      ap address (sym e) ∙ onward (v + k) (j - k) (omega (arith, g .few)) (omega arith)

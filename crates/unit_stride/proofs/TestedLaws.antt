@@ -9,10 +9,12 @@ use Rattle.answer.specs.declared.Answer.the-variants.{Finished}
 use Rattle.access.specs.declared.Fault.{Fault}
 use Rattle.access.specs.declared.AccessTest.the-variants.{Granted, Faulted}
 use Rattle.plan.specs.declared.Action.the-variants as A
+use Rattle.access.proofs.AccessLaws.{granted-facts}
 use Rattle.plan.specs.declared.Transfer.{Transfer}
 use Rattle.machine.specs.Effect.{activeOf, elementAddress}
 use Rattle.unit_stride.specs.declared.Checked.{Checked}
 use Rattle.unit_stride.specs.Pages.{pageTested}
+use Rattle.unit_stride.proofs.PackedLaws.{page-tested}
 use Rattle.unit_stride.specs.Tested.{all, testOf, pagesFrom, Tested, none-faults, first-faults}
 
 module _ (active : ℕ → Bool) (rights : List ℕ) (memory : ℕ) (t : Transfer) (v n : ℕ) where
@@ -26,6 +28,14 @@ module _ (active : ℕ → Bool) (rights : List ℕ) (memory : ℕ) (t : Transfe
       → pagesFrom active rights memory t v (k + flag (pageTested memory (elementAddress t (v + k) 0) (t .bytes))) ≡ pages
       → Tested active rights memory t v n (record { answer = x; element = element; pages = pages })
   faults k element pages x f l h g p q e = rw (← p, ← q, ← e) (first-faults k f l h g)
+
+-- an active element that is granted is inside memory
+module _ (active : ℕ → Bool) (rights : List ℕ) (memory : ℕ) (t : Transfer) where
+  pub granted-inside : (i : ℕ) → active i ≡ true → testOf active rights memory t i ≡ Granted
+      → pageTested memory (elementAddress t i 0) (t .bytes) ≡ true
+  granted-inside i a h =
+      let f = granted-facts rights memory (t .store) (elementAddress t i 0) (t .bytes) (rw a at h) in
+      page-tested memory _ _ (f .aligned) (f .inside)
 
 -- ---- with a mask or without
 

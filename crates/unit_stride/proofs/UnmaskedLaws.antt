@@ -206,6 +206,12 @@ module _ (rights : List ℕ) (memory : ℕ) (t : Transfer) (v n : ℕ) (g : Pack
       pub first-last : start / 256 ≤ (start + (inside - 1) * t .bytes) / 256
       first-last = omega arith
 
+      -- an access has at most 128 bytes
+      pub two-pages : (start + (inside - 1) * t .bytes) / 256 ≤ start / 256 + 1
+      two-pages =
+          let m : (inside - 1) * t .bytes ≤ n * t .bytes = mul-le-mul-right (t .bytes) (omega (arith, h .inside-are)) in
+          omega (arith, g .short)
+
       pub last-page : (start + (inside - 1) * t .bytes) / 256 < 256
       last-page = omega (arith, last-within, g .memory-length, size-pos (t .bytes) (g .size))
 

@@ -1,7 +1,7 @@
 // The elements of a unit-stride access, tested: by pages where there is no mask, one after the other where there is.
 ghost use mathlib.Core.Path.{_≡_};
 ghost use mathlib.Core.Bool.{true, cond};
-ghost use Prim.Native.Nat.{_^_, _≤_, _<_};
+ghost use Prim.Native.Nat.{_+_, _^_, _≤_, _<_};
 ghost use lib.ListN.{length};
 ghost use lib.Dec.{T};
 ghost use Rattle.layout.specs.Layout.{byteSize};
@@ -24,9 +24,9 @@ pub struct Checked {
 
 // ---- unmasked: by pages
 
-// The first of the pages from `first` to `last` that lacks the right, or the page after them.
+// The first of the pages from `first` to `last` that lacks the right, or the page after them. At most two are asked for.
 fn first_closed(rights: &[u8], right: u8, first: u64, last: u64) -> u64
-    requires { ⌜ (length (now rights) ≡ 256) × ((first ≤ last) × (last < 256)) ⌝ }
+    requires { ⌜ (length (now rights) ≡ 256) × ((first ≤ last) × ((last ≤ first + 1) × (last < 256))) ⌝ }
     ensures { λ r. ⌜ FirstClosed (now (rights .entry)) right first last r ⌝ }
 {
     let mut page = first;

@@ -1,8 +1,8 @@
 use native.Mathlib.Omega.{arith}
 use borrow.Author.Needs.{needs}
 use Rattle.layout.proofs.WidthLaws.{size-pos}
-use Rattle.unit_stride.proofs.UnmaskedLaws.{span-fits, last-fits, first-last, last-page, pages-fit, page-fits, element-fits}
-use Rattle.unit_stride.proofs.UnmaskedLaws.{at-closed, at-end, at-clear}
+use Rattle.unit_stride.proofs.UnmaskedLaws.{span-fits, last-fits, first-last, two-pages, last-page, pages-fit}
+use Rattle.unit_stride.proofs.UnmaskedLaws.{page-fits, element-fits, at-closed, at-end, at-clear}
 use Rattle.unit_stride.proofs.by_pages.Statement.{statement}
 use Rattle.unit_stride.proofs.by_pages.Tie as tie
 
@@ -14,7 +14,7 @@ by-pages-spec =
     (λ c. search span-fits)
     (λ c. search last-fits)
     (λ c κs. search needs)
-    (λ c κs. (search needs, (search first-last, search last-page)))
+    (λ c κs. (search needs, (search first-last, (search two-pages, search last-page))))
     (λ c. search page-fits)
     (λ c κs. search needs)
     (λ c. search size-pos)
