@@ -62,13 +62,14 @@ uint64_t prashunde_turn(uint32_t word, uint32_t allowance,
                         uint64_t control[6], uint64_t *passed, uint64_t *address);
 
 /*
- * The access check: what prashunde_turn would answer to `word` with an allowance of UINT32_MAX, before that is called. It is for unit-stride
- * loads and stores, plain, of masks or of whole registers; to every other word (strided and indexed ones and segments too) it answers 2.
- * Without a mask it tests the first address, the end of memory and each page once, and no element; under a mask the elements, up to the first
- * that would fault. Parameters as those of prashunde_turn; nothing that is lent is changed, vs neither.
+ * The access check: what prashunde_turn would answer to `word` with an allowance of UINT32_MAX, before that is called. It is for
+ * unit-stride loads and stores, plain, of masks or of whole registers; to every other word (strided and indexed ones and segments too) it
+ * answers 2. Without a mask it tests the first address, the end of memory and each page once, and no element; under a mask the elements,
+ * up to the first that would fault. Parameters as those of prashunde_turn; nothing but element and pages is changed, vs neither.
  *   element   gets the element that would fault (answers 4 to 7): vstart after the turn. Otherwise 0
  *   pages     gets the number of pages tested: the different pages of the active elements before the faulting one, and of that one unless
- *             it is misaligned or past memory; of all active elements that remain where none would fault. Beside 2 and 32 to 36, 0
+ *             it is misaligned or past memory; of all active elements that remain where none would fault. At most 2. Beside 2 and 32 to
+ *             36, 0
  * Returns 0 where the turn would finish, also where nothing remains; 4 to 7 where it would trap; 2 and 32 to 36 as the turn. Never 1.
  */
 uint64_t prashunde_access_check(uint32_t word,

@@ -202,7 +202,9 @@ fn turn_and_check(row: &Row) -> ((f64, f64), (f64, f64), u64) {
 // What the check takes of the turn's time, both less that of an illegal word through the same call.
 fn checks() {
     let (no_turn, no_check, _) = turn_and_check(&ILLEGAL);
-    println!("\n| Access check | Pages | ns, least | ns, middle | the turn: ns, least | ns, middle | share of the turn, less an illegal word |");
+    println!(
+        "\n| Access check | Pages | ns, least | ns, middle | the turn: ns, least | ns, middle | share of the turn, less an illegal word |"
+    );
     println!("|---|---|---|---|---|---|---|");
     println!(
         "| {} | 0 | {:.0} | {:.0} | {:.0} | {:.0} | - |",

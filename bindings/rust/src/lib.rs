@@ -181,7 +181,7 @@ pub fn turn(
     }
 }
 
-/// What an access check gives: the answer of the turn, the element that would fault and the number of pages tested.
+/// What an access check gives: the answer of the turn, the element that would fault and the number of pages tested, at most 2.
 #[derive(Clone, Copy, Debug, PartialEq, Eq)]
 pub struct Checked {
     pub answer: Answer,

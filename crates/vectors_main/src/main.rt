@@ -327,27 +327,16 @@ fn step(
     rights: &mut [u8; RIGHTS],
     memory_before: &[u8; MEMORY],
 ) -> bool {
-    match read_kind() {
+    let kind = read_kind();
+    match kind {
         99 => start(head, registers, scalars, rights),
         120 => read_scalar(scalars),
         118 => read_register(registers),
         112 => read_rights(rights),
-        46 => {
+        46 | 63 => {
             read_end();
             finish(
-                false,
-                head,
-                registers,
-                scalars,
-                memory,
-                rights,
-                memory_before,
-            );
-        }
-        63 => {
-            read_end();
-            finish(
-                true,
+                kind == 63,
                 head,
                 registers,
                 scalars,
