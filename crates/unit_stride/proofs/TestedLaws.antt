@@ -1,12 +1,14 @@
 -- What comes of testing the elements, from what the code has: an answer, an element and a number of pages.
 use Prim.Native.Nat.{ℕ, _+_, _<_}
 use mathlib.Core.Path.{_≡_}
-use mathlib.Core.Bool.{Bool, true, false}
+use mathlib.Core.Bool.{Bool, true, false, not, cond}
 use mathlib.Core.List.{List}
+use borrow.Author.Tests.{not-true, not-false}
 use Rattle.width.specs.Width.{flag}
 use Rattle.answer.specs.declared.Answer.{Answer}
 use Rattle.answer.specs.declared.Answer.the-variants.{Finished}
 use Rattle.access.specs.declared.Fault.{Fault}
+use Rattle.access.specs.declared.AccessTest.{AccessTest}
 use Rattle.access.specs.declared.AccessTest.the-variants.{Granted, Faulted}
 use Rattle.plan.specs.declared.Action.the-variants as A
 use Rattle.access.proofs.AccessLaws.{granted-facts}
@@ -28,6 +30,14 @@ module _ (active : ℕ → Bool) (rights : List ℕ) (memory : ℕ) (t : Transfe
       → pagesFrom active rights memory t v (k + flag (pageTested memory (elementAddress t (v + k) 0) (t .bytes))) ≡ pages
       → Tested active rights memory t v n (record { answer = x; element = element; pages = pages })
   faults k element pages x f l h g p q e = rw (← p, ← q, ← e) (first-faults k f l h g)
+
+-- an element that is active or not, by its test where it is
+module _ (active : Bool) (x r : AccessTest) where
+  pub test-inactive : not active ≡ true → r ≡ Granted → r ≡ cond active x Granted
+  test-inactive h e = rw (not-true active h) e
+
+  pub test-active : not active ≡ false → r ≡ x → r ≡ cond active x Granted
+  test-active h e = rw (not-false active h) e
 
 -- an active element that is granted is inside memory
 module _ (active : ℕ → Bool) (rights : List ℕ) (memory : ℕ) (t : Transfer) where

@@ -23,7 +23,7 @@ use Rattle.access.proofs.AccessLaws.{is-aligned, facts-granted, not-aligned, pa
 use Rattle.plan.specs.declared.Transfer.{Transfer}
 use Rattle.machine.specs.Effect.{elementAddress}
 use Rattle.unit_stride.specs.Pages.{differentPages}
-use Rattle.unit_stride.specs.Tested.{Packed, Begun, all, testOf, pagesFrom, Tested, FirstClosed}
+use Rattle.unit_stride.specs.Tested.{Packed, Begins, all, testOf, pagesFrom, Tested, FirstClosed}
 use Rattle.unit_stride.proofs.PageLaws.{Counted, counted-none, counted-same, counted-new}
 use Rattle.unit_stride.proofs.TestedLaws.{finishes, faults}
 use Rattle.unit_stride.proofs.PackedLaws.{page-tested, untested-outside, onward}
@@ -111,6 +111,9 @@ module _ (rights : List ℕ) (memory : ℕ) (t : Transfer) (v n : ℕ) (g : Pack
   unfolding differentPages
   nothing-remains z = finishes all rights memory t v n 0 (λ j l. absurd (omega arith)) (rw z)
 
+  pub some-remain : (n ≡ 0 → ⊥) → 1 ≤ n
+  some-remain z = omega arith
+
   module _ (start : ℕ) (q : start ≡ elementAddress t v 0) where
     first-address : elementAddress t (v + 0) 0 ≡ start
     first-address = ap (λ (i : ℕ). elementAddress t i 0) (add-zero v) ∙ sym q
@@ -125,18 +128,20 @@ module _ (rights : List ℕ) (memory : ℕ) (t : Transfer) (v n : ℕ) (g : Pack
         (sym p) (add-zero v)
         (rw (first-address, sym e ∙ not-true aligned f))
 
-    pub begun : (inside d : ℕ) (aligned : Bool) → aligned ≡ eqb (start % t .bytes) 0 → not aligned ≡ false → d ≡ memory - start
-        → inside ≡ min n (d / t .bytes) → Begun memory t v n start inside
-    begun inside d aligned e f p i =
-        record { begins = q; aligned = is-aligned start (t .bytes) aligned e f; inside-are = rw (← p) i }
+    pub begins : (aligned : Bool) → aligned ≡ eqb (start % t .bytes) 0 → not aligned ≡ false → Begins t v start
+    begins aligned e f = record { begins = q; aligned = is-aligned start (t .bytes) aligned e f }
 
-  module _ (start inside : ℕ) (h : Begun memory t v n start inside) where
+  -- so many lie inside memory
+  module _ (start inside d : ℕ) (h : Begins t v start) (less : d ≡ memory - start) (smaller : inside ≡ min n (d / t .bytes)) where
+    inside-are : inside ≡ min n ((memory - start) / t .bytes)
+    inside-are = rw (← less) smaller
+
     -- element v + j
     abbrev at : ℕ → ℕ
     at j = start + j * t .bytes
 
     within : (j : ℕ) → j < inside → at j + t .bytes ≤ memory
-    within j l = is-inside start j memory (t .bytes) (g .size) (omega (arith, h .inside-are))
+    within j l = is-inside start j memory (t .bytes) (g .size) (omega (arith, inside-are))
 
     multiple : (j : ℕ) → at j % t .bytes ≡ 0
     multiple j = stays-aligned start j (t .bytes) (g .size) (h .aligned)
@@ -147,7 +152,7 @@ module _ (rights : List ℕ) (memory : ℕ) (t : Transfer) (v n : ℕ) (g : Pack
         ∙ ap (λ (s : ℕ). s + j * t .bytes) (sym (h .begins))
 
     there : (j : ℕ) → j < inside → elementAddress t (v + j) 0 ≡ at j
-    there j l = here j (omega (arith, h .inside-are)) (omega (arith, within j l))
+    there j l = here j (omega (arith, inside-are)) (omega (arith, within j l))
 
     granted-at : (j : ℕ) → j < inside → needed (t .store) ≤ getD rights (pageOf (at j)) 0 → testOf all rights memory t (v + j) ≡ Granted
     granted-at j l r =
@@ -181,11 +186,11 @@ module _ (rights : List ℕ) (memory : ℕ) (t : Transfer) (v n : ℕ) (g : Pack
         rw (z, one, ← p) (counted-new all page v 0 0 0 (counted-none all page v) refl (omega arith))
     counted (suc j) l = counted-next j l (counted j (omega arith))
 
-    first-outside : (x : Answer) → (n ≡ 0 → ⊥) → inside ≡ 0 → x ≡ denied (t .store)
+    pub at-outside : (x : Answer) → 1 ≤ n → inside ≡ 0 → x ≡ denied (t .store)
         → Tested all rights memory t v n (record { answer = x; element = v; pages = 0 })
     unfolding differentPages
-    first-outside x l z p =
-        let o : memory < at 0 + t .bytes = is-outside start 0 memory (t .bytes) (g .size) (omega (arith, h .inside-are)) in
+    at-outside x l z p =
+        let o : memory < at 0 + t .bytes = is-outside start 0 memory (t .bytes) (g .size) (omega (arith, inside-are)) in
         let e : elementAddress t (v + 0) 0 ≡ start = first-address start (h .begins) in
         faults all rights memory t v n 0 v 0 x (faulting (denied (t .store)) start) (omega arith) (λ j m. absurd (omega arith))
         (rw e (sym (past-memory rights memory (t .store) start (t .bytes) (h .aligned) _ (denied (t .store)) (g .size)
@@ -193,7 +198,7 @@ module _ (rights : List ℕ) (memory : ℕ) (t : Transfer) (v n : ℕ) (g : Pack
         (sym p) (add-zero v) (rw (e, untested-outside memory start (t .bytes) (h .aligned) (omega arith)))
 
     -- at least one element lies inside
-    module _ (some : 1 ≤ inside) where
+    module _ (some : inside ≡ 0 → ⊥) where
       last-within : at (inside - 1) + t .bytes ≤ memory
       last-within = within (inside - 1) (omega arith)
 
@@ -209,7 +214,7 @@ module _ (rights : List ℕ) (memory : ℕ) (t : Transfer) (v n : ℕ) (g : Pack
       -- an access has at most 128 bytes
       pub two-pages : (start + (inside - 1) * t .bytes) / 256 ≤ start / 256 + 1
       two-pages =
-          let m : (inside - 1) * t .bytes ≤ n * t .bytes = mul-le-mul-right (t .bytes) (omega (arith, h .inside-are)) in
+          let m : (inside - 1) * t .bytes ≤ n * t .bytes = mul-le-mul-right (t .bytes) (omega (arith, inside-are)) in
           omega (arith, g .short)
 
       pub last-page : (start + (inside - 1) * t .bytes) / 256 < 256
@@ -238,7 +243,7 @@ module _ (rights : List ℕ) (memory : ℕ) (t : Transfer) (v n : ℕ) (g : Pack
             → Tested all rights memory t v n (record { answer = x; element = v + d / t .bytes; pages = closed - start / 256 + 1 })
         at-closed x d l e p =
             faults all rights memory t v n k (v + d / t .bytes) (closed - start / 256 + 1) x (faulting (denied (t .store)) (at k))
-            (omega (arith, m, h .inside-are))
+            (omega (arith, m, inside-are))
             (λ j q. open-at j (omega (arith, m)) (before-page start j closed (t .bytes) (g .size) (h .aligned) q))
             (rw (there k m) (sym (no-right rights memory (t .store) (at k) (t .bytes) (multiple k)
             right (omega (arith, within k m, size-pos (t .bytes) (g .size))) r _ (denied (t .store)) (rw o (c .closed l)) refl refl)))
@@ -272,7 +277,7 @@ module _ (rights : List ℕ) (memory : ℕ) (t : Transfer) (v n : ℕ) (g : Pack
               (record { answer = x; element = v + inside; pages = pageOf (at (inside - 1)) - start / 256 + 1 })
           at-end x l p =
               let w : elementAddress t (v + inside) 0 ≡ at inside = here inside (omega arith) (omega (arith, last-within)) in
-              let o : memory < at inside + t .bytes = is-outside start inside memory (t .bytes) (g .size) (omega (arith, h .inside-are)) in
+              let o : memory < at inside + t .bytes = is-outside start inside memory (t .bytes) (g .size) (omega (arith, inside-are)) in
               faults all rights memory t v n inside (v + inside) _ x (faulting (denied (t .store)) (at inside)) l all-open
               (rw w (sym (past-memory rights memory (t .store) (at inside) (t .bytes) (multiple inside)
               _ (denied (t .store)) (g .size) (omega (arith, size-pos (t .bytes) (g .size))) refl refl)))
@@ -283,11 +288,5 @@ module _ (rights : List ℕ) (memory : ℕ) (t : Transfer) (v n : ℕ) (g : Pack
               → Tested all rights memory t v n
               (record { answer = Finished; element = 0; pages = pageOf (at (inside - 1)) - start / 256 + 1 })
           at-clear l =
-              let e : inside ≡ n = omega (arith, h .inside-are) in
+              let e : inside ≡ n = omega (arith, inside-are) in
               finishes all rights memory t v n _ (λ j m. all-open j (omega arith)) (rw (← e) all-pages)
-
-  pub at-outside : (start inside d : ℕ) (aligned : Bool) (x : Answer) → start ≡ elementAddress t v 0 → (n ≡ 0 → ⊥)
-      → aligned ≡ eqb (start % t .bytes) 0 → not aligned ≡ false → d ≡ memory - start → inside ≡ min n (d / t .bytes) → inside ≡ 0
-      → x ≡ denied (t .store)
-      → Tested all rights memory t v n (record { answer = x; element = v; pages = 0 })
-  at-outside start inside d aligned x q l e f p i = first-outside start inside (begun start q inside d aligned e f p i) x l

@@ -1,6 +1,6 @@
 -- For contracts of inner functions, not to be believed: what comes of testing the elements of a unit-stride access, by pages or one after
 -- the other, and what these functions rely on.
-use Prim.Native.Nat.{ℕ, suc, _+_, _-_, _*_, _/_, _%_, _≤_, _<_, min}
+use Prim.Native.Nat.{ℕ, suc, _+_, _*_, _%_, _≤_, _<_}
 use mathlib.Core.Path.{_≡_}
 use mathlib.Core.Bool.{Bool, true, _&&_, cond}
 use mathlib.Core.List.{List}
@@ -28,11 +28,10 @@ pub record Packed (rights : List ℕ) (memory : ℕ) (t : Transfer) (v n : ℕ) 
   pub few : v + n ≤ 256
   pub short : n * t .bytes ≤ 128
 
--- they begin at an aligned address, and so many of them lie inside memory
-pub record Begun (memory : ℕ) (t : Transfer) (v n start inside : ℕ) : Type 0 where
+-- they begin at an aligned address
+pub record Begins (t : Transfer) (v start : ℕ) : Type 0 where
   pub begins : start ≡ elementAddress t v 0
   pub aligned : start % t .bytes ≡ 0
-  pub inside-are : inside ≡ min n ((memory - start) / t .bytes)
 
 -- the mask bits of the n elements from v up lie in a register file of so many bytes
 abbrev pub MaskInside : ℕ → ℕ → ℕ → ℕ → Type 0

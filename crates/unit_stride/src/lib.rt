@@ -9,7 +9,7 @@ ghost use Rattle.access.specs.declared.AccessTest.the-variants.{Granted};
 ghost use Rattle.access.specs.Access.{accessOf};
 ghost use Rattle.machine.specs.Effect.{activeOf};
 ghost use Rattle.unit_stride.specs.Pages.{pageTested};
-ghost use Rattle.unit_stride.specs.Tested.{Packed, Begun, MaskInside, all, Tested, FirstClosed, talliedOf};
+ghost use Rattle.unit_stride.specs.Tested.{Packed, Begins, MaskInside, all, Tested, FirstClosed, talliedOf};
 use access::AccessTest;
 use answer::Answer;
 use control::Board;
@@ -39,7 +39,7 @@ fn first_closed(rights: &[u8], right: u8, first: u64, last: u64) -> u64
     page
 }
 
-// The elements from the address `start` on, which is aligned, by the pages of those that lie inside memory: at least one of them does.
+// The elements from the address `start` on, which is aligned: how many of them lie inside memory, and the pages of these.
 fn by_pages(
     rights: &[u8],
     memory: usize,
@@ -47,13 +47,19 @@ fn by_pages(
     vstart: u64,
     remaining: u64,
     start: u64,
-    inside: u64,
 ) -> Checked
-    requires { ⌜
-        Packed (now rights) memory t vstart remaining × (Begun memory t vstart remaining start inside × (1 ≤ inside)) ⌝ }
+    requires { ⌜ Packed (now rights) memory t vstart remaining × (Begins t vstart start × (1 ≤ remaining)) ⌝ }
     ensures { λ r. ⌜ Tested all (now (rights .entry)) memory t vstart remaining r ⌝ }
 {
     let size = t.bytes;
+    let inside = control::smaller(remaining, control::less(memory as u64, start) / size);
+    if inside == 0 {
+        return Checked {
+            answer: access::denied_answer(t.store),
+            element: vstart,
+            pages: 0,
+        };
+    }
     let first = start / 256;
     let last = (start + (inside - 1) * size) / 256;
     let closed = first_closed(rights, access::right_needed(t.store), first, last);
@@ -101,15 +107,7 @@ fn unmasked(rights: &[u8], memory: usize, t: Transfer, vstart: u64, remaining: u
             pages: 0,
         };
     }
-    let inside = control::smaller(remaining, control::less(memory as u64, start) / t.bytes);
-    if inside == 0 {
-        return Checked {
-            answer: access::denied_answer(t.store),
-            element: vstart,
-            pages: 0,
-        };
-    }
-    by_pages(rights, memory, t, vstart, remaining, start, inside)
+    by_pages(rights, memory, t, vstart, remaining, start)
 }
 
 // ---- masked: one element after the other

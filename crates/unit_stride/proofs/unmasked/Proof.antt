@@ -1,6 +1,5 @@
 use borrow.Author.Needs.{needs}
-use Rattle.layout.proofs.WidthLaws.{size-pos}
-use Rattle.unit_stride.proofs.UnmaskedLaws.{nothing-remains, at-misaligned, begun, at-outside}
+use Rattle.unit_stride.proofs.UnmaskedLaws.{nothing-remains, at-misaligned, begins, some-remain}
 use Rattle.unit_stride.proofs.unmasked.Statement.{statement}
 use Rattle.unit_stride.proofs.unmasked.Tie as tie
 
@@ -13,10 +12,5 @@ unmasked-spec =
     (λ c κs. search needs)
     (λ c κs. search needs)
     (λ c. search at-misaligned)
-    (λ c κs. search needs)
-    (λ c. search size-pos)
-    (λ c κs. search needs)
-    (λ c κs. search needs)
-    (λ c. search at-outside)
-    (λ c κs. (search needs, (search begun, search needs)))
+    (λ c κs. (search needs, (search begins, search some-remain)))
     (λ c. search needs))
