@@ -51,6 +51,9 @@ enum {
  *   passed    gets the number of elements passed, masked-off ones included
  *   address   gets the address of the first byte of the faulting element (answers 4 to 7), or of a segment's first faulting field;
  *             otherwise 0
+ *   page      gets the page of that element or field where the page lacks the right that was wanted. Where it is misaligned or past the
+ *             end of memory, and beside all other answers, 256
+ *   right     gets the right that was wanted of that page, 1 by a load and 2 by a store; 0 beside page 256
  * Returns the answer. On 0, 1 and 4 to 7 vs becomes 3 (Dirty), also where nothing was passed. On 2 and 32 to 36 registers, scalars, memory
  * and control are as before, and passed and address get 0.
  */
@@ -59,17 +62,21 @@ uint64_t prashunde_turn(uint32_t word, uint32_t allowance,
                         uint64_t *scalars, size_t scalars_len,
                         uint8_t *memory, size_t memory_len,
                         const uint8_t *rights, size_t rights_len,
-                        uint64_t control[6], uint64_t *passed, uint64_t *address);
+                        uint64_t control[6], uint64_t *passed, uint64_t *address,
+                        uint64_t *page, uint64_t *right);
 
 /*
  * The access check: what prashunde_turn would answer to `word` with an allowance of UINT32_MAX, before that is called. It is for
  * unit-stride loads and stores, plain, of masks or of whole registers; to every other word (strided and indexed ones and segments too) it
  * answers 2. Without a mask it tests the first address, the end of memory and each page once, and no element; under a mask the elements,
- * up to the first that would fault. Parameters as those of prashunde_turn; nothing but element and pages is changed, vs neither.
+ * up to the first that would fault. Parameters as those of prashunde_turn; nothing but element, pages, page and right is changed, vs
+ * neither.
  *   element   gets the element that would fault (answers 4 to 7): vstart after the turn. Otherwise 0
  *   pages     gets the number of pages tested: the different pages of the active elements before the faulting one, and of that one unless
  *             it is misaligned or past memory; of all active elements that remain where none would fault. At most 2. Beside 2 and 32 to
  *             36, 0
+ *   page, right   get what they would get of the turn: the page that lacks the right, and the right that is wanted; 256 and 0 where no
+ *             page is closed to the access
  * Returns 0 where the turn would finish, also where nothing remains; 4 to 7 where it would trap; 2 and 32 to 36 as the turn. Never 1.
  */
 uint64_t prashunde_access_check(uint32_t word,
@@ -77,7 +84,8 @@ uint64_t prashunde_access_check(uint32_t word,
                                 const uint64_t *scalars, size_t scalars_len,
                                 const uint8_t *memory, size_t memory_len,
                                 const uint8_t *rights, size_t rights_len,
-                                const uint64_t control[6], uint64_t *element, uint64_t *pages);
+                                const uint64_t control[6], uint64_t *element, uint64_t *pages,
+                                uint64_t *page, uint64_t *right);
 
 /*
  * Reads the CSR with the number `csr`: 0x008 vstart, 0x009 vxsat, 0x00A vxrm, 0x00F vcsr, 0xC20 vl, 0xC21 vtype, 0xC22 vlenb.

@@ -61,6 +61,7 @@ class Machine:
         self.x = [0] * 10 + [int(x, 16) for x in (x10, x11, x12)] + [0] * 19
         self.memory, self.file = bytearray(a % 256 for a in range(4096)), bytearray(512)
         self.vtype, self.vl, self.vstart, self.vs = 1 << 63, 0, 0, 1
+        self.wanted = 256, 0
 
     def set_type(self, word):
         rd, rs1, immediate = word >> 7 & 31, word >> 15 & 31, word >> 30 == 3
@@ -112,7 +113,10 @@ class Machine:
             address = (base + size * i) % 2**64
             if address % size:
                 return 6 if store else 4
-            if address + size > 4096 or self.rights[address // 256] < 1 + store:
+            if address + size > 4096:
+                return 7 if store else 5
+            if self.rights[address // 256] < 1 + store:
+                self.wanted = address // 256, 1 + store
                 return 7 if store else 5
             of, to = ((self.file, d + size * i), (self.memory, address))[::1 if store else -1]
             self.put(to[0], to[1], size, self.number(of[0], of[1], size))
@@ -148,7 +152,10 @@ def run(sheet):
             answer = m.turn(word, int(allow))
             if answer != 2:
                 m.vs = 3
-            text += 'word=%08x\nanswer=%d\nvstart=%d\nvl=%d\nvtype=%016x\nvs=%d\n' % (word, answer, m.vstart, m.vl, m.vtype, m.vs)
+            text += 'word=%08x\nanswer=%d\n' % (word, answer)
+            if 4 <= answer <= 7:
+                text += 'page=%d\nright=%d\n' % m.wanted
+            text += 'vstart=%d\nvl=%d\nvtype=%016x\nvs=%d\n' % (m.vstart, m.vl, m.vtype, m.vs)
             if answer != 1:
                 break
         if answer:

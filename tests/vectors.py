@@ -5,11 +5,11 @@
 
 writes stdin (the cases) and stdout (what the program must print) from vector files whose lines are turns
 
-    word allowance vtype vl vstart vxrm vxsat vs INPUT.. : answer passed fault vtype vl vstart vxrm vxsat vs CHANGE..
+    word allowance vtype vl vstart vxrm vxsat vs INPUT.. : answer passed fault page right vtype vl vstart vxrm vxsat vs CHANGE..
 
 or access checks
 
-    word vtype vl vstart vxrm vxsat vs INPUT.. : answer element pages
+    word vtype vl vstart vxrm vxsat vs INPUT.. : answer element pages page right
 
 An INPUT is xN=HEX, vN=BYTES, pA-B=RIGHT, size=N (of memory), file=N, scalars=N or pages=N; a CHANGE is xN=HEX, vN=BYTES or mA=BYTES. What
 no INPUT names has the values of `scalars`, `registers` and `memory` below. The program prints each changed byte or scalar by itself, so
@@ -32,7 +32,7 @@ def cut(values, n):
 class Case:
     def __init__(self, line):
         given, gives = (part.split() for part in line.split(' : '))
-        self.is_check = len(gives) == 3
+        self.is_check = len(gives) == 5
         if self.is_check:
             given.insert(1, '0')
         head, self.inputs = given[:8], [i.split('=') for i in given[8:]]
@@ -41,7 +41,7 @@ class Case:
         lengths = {'file': 512, 'scalars': 32, 'size': 65536, 'pages': 256}
         lengths.update((k, int(v)) for k, v in self.inputs if k in lengths)
         self.lengths = [lengths[k] for k in ('file', 'scalars', 'size', 'pages')]
-        self.answer, self.changes = gives[:9], [c.split('=') for c in gives[9:]]
+        self.answer, self.changes = gives[:11], [c.split('=') for c in gives[11:]]
 
     def lines(self):
         yield ('c%08x%08x' % (self.word, self.allowance) + ''.join('%016x' % x for x in self.control)

@@ -34,7 +34,16 @@ fn state(row: &Row) -> State {
     }
 }
 
-fn turn(word: u32, s: &mut State, passed: &mut u64, address: &mut u64) -> u64 {
+// The numbers that a turn gives beside its answer.
+#[derive(Default)]
+struct Told {
+    passed: u64,
+    address: u64,
+    page: u64,
+    right: u64,
+}
+
+fn turn(word: u32, s: &mut State, told: &mut Told) -> u64 {
     unsafe {
         prashunde_turn(
             word,
@@ -48,13 +57,24 @@ fn turn(word: u32, s: &mut State, passed: &mut u64, address: &mut u64) -> u64 {
             s.rights.as_ptr(),
             s.rights.len(),
             s.control.as_mut_ptr(),
-            passed,
-            address,
+            &mut told.passed,
+            &mut told.address,
+            &mut told.page,
+            &mut told.right,
         )
     }
 }
 
-fn check(word: u32, s: &State, element: &mut u64, pages: &mut u64) -> u64 {
+// The numbers that an access check gives beside its answer.
+#[derive(Default)]
+struct Foretold {
+    element: u64,
+    pages: u64,
+    page: u64,
+    right: u64,
+}
+
+fn check(word: u32, s: &State, told: &mut Foretold) -> u64 {
     unsafe {
         prashunde_access_check(
             word,
@@ -67,8 +87,10 @@ fn check(word: u32, s: &State, element: &mut u64, pages: &mut u64) -> u64 {
             s.rights.as_ptr(),
             s.rights.len(),
             s.control.as_ptr(),
-            element,
-            pages,
+            &mut told.element,
+            &mut told.pages,
+            &mut told.page,
+            &mut told.right,
         )
     }
 }
@@ -146,10 +168,10 @@ fn time(mut call: impl FnMut()) -> (f64, f64) {
 // One turn by each: the answers, the number passed and all parts of the state are the same.
 fn same(mut a: State) -> u64 {
     let mut b = a.clone();
-    let (mut p, mut q, mut address) = (0, 0, 0);
-    let answer = turn(ROWS[0].word, &mut a, &mut p, &mut address);
-    assert_eq!((answer, p), (plain(8, 16, 24, &mut b, &mut q), q));
-    assert!(a == b && address == 0);
+    let (mut told, mut q) = (Told::default(), 0);
+    let answer = turn(ROWS[0].word, &mut a, &mut told);
+    assert_eq!((answer, told.passed), (plain(8, 16, 24, &mut b, &mut q), q));
+    assert!(a == b && (told.address, told.page, told.right) == (0, 256, 0));
     answer
 }
 
@@ -187,16 +209,17 @@ fn agree() {
 // The least and the middle time of a turn of the row's word and of its check, which answer the same.
 fn turn_and_check(row: &Row) -> ((f64, f64), (f64, f64), u64) {
     let mut s = state(row);
-    let (mut passed, mut address, mut element, mut pages) = (0, 0, 0, 0);
-    assert_eq!(check(row.word, &s, &mut element, &mut pages), row.answer, "{}", row.name);
-    assert_eq!(turn(row.word, &mut s, &mut passed, &mut address), row.answer, "{}", row.name);
+    let (mut told, mut foretold) = (Told::default(), Foretold::default());
+    assert_eq!(check(row.word, &s, &mut foretold), row.answer, "{}", row.name);
+    assert_eq!(turn(row.word, &mut s, &mut told), row.answer, "{}", row.name);
+    assert_eq!((foretold.page, foretold.right), (told.page, told.right), "{}", row.name);
     let turned = time(|| {
-        black_box(turn(black_box(row.word), black_box(&mut s), &mut passed, &mut address));
+        black_box(turn(black_box(row.word), black_box(&mut s), &mut told));
     });
     let checked = time(|| {
-        black_box(check(black_box(row.word), black_box(&s), &mut element, &mut pages));
+        black_box(check(black_box(row.word), black_box(&s), &mut foretold));
     });
-    (turned, checked, pages)
+    (turned, checked, foretold.pages)
 }
 
 // What the check takes of the turn's time, both less that of an illegal word through the same call.
@@ -243,21 +266,21 @@ fn main() {
     );
     for row in &ROWS {
         let mut s = state(row);
-        let (mut passed, mut address) = (0, 0);
-        let answer = turn(row.word, &mut s, &mut passed, &mut address);
-        assert_eq!((answer, passed), (row.answer, row.passed), "{}", row.name);
+        let mut told = Told::default();
+        let answer = turn(row.word, &mut s, &mut told);
+        assert_eq!((answer, told.passed), (row.answer, row.passed), "{}", row.name);
         let t = time(|| {
-            black_box(turn(black_box(row.word), black_box(&mut s), &mut passed, &mut address));
+            black_box(turn(black_box(row.word), black_box(&mut s), &mut told));
         });
-        let each = if passed == 0 {
+        let each = if told.passed == 0 {
             String::from("-")
         } else {
-            format!("{:.2}", t.0 / passed as f64)
+            format!("{:.2}", t.0 / told.passed as f64)
         };
         println!(
             "| {} | {} | {:.0} | {:.0} | {} | {:.1} |",
             row.name,
-            passed,
+            told.passed,
             t.0,
             t.1,
             each,

@@ -10,10 +10,11 @@ static uint64_t scalars[32], control[6];
 
 static void turn(const char *name, uint32_t word, uint32_t allowance)
 {
-    uint64_t passed, address;
+    uint64_t passed, address, page, right;
     uint64_t answer = prashunde_turn(word, allowance, registers, sizeof registers, scalars, 32, memory, sizeof memory,
-                                     rights, sizeof rights, control, &passed, &address);
-    printf("%s: answer %" PRIu64 ", passed %" PRIu64 ", address %" PRIu64 ", control %" PRIx64, name, answer, passed, address, control[0]);
+                                     rights, sizeof rights, control, &passed, &address, &page, &right);
+    printf("%s: answer %" PRIu64 ", passed %" PRIu64 ", address %" PRIu64, name, answer, passed, address);
+    printf(", page %" PRIu64 ", right %" PRIu64 ", control %" PRIx64, page, right, control[0]);
     for (size_t i = 1; i < 6; i++)
         printf(" %" PRIu64, control[i]);
     printf("\n");
@@ -21,10 +22,11 @@ static void turn(const char *name, uint32_t word, uint32_t allowance)
 
 static void check(const char *name, uint32_t word)
 {
-    uint64_t element, pages;
+    uint64_t element, pages, page, right;
     uint64_t answer = prashunde_access_check(word, registers, sizeof registers, scalars, 32, memory, sizeof memory, rights, sizeof rights,
-                                             control, &element, &pages);
-    printf("check %s: answer %" PRIu64 ", element %" PRIu64 ", pages %" PRIu64 "\n", name, answer, element, pages);
+                                             control, &element, &pages, &page, &right);
+    printf("check %s: answer %" PRIu64 ", element %" PRIu64 ", pages %" PRIu64, name, answer, element, pages);
+    printf(", page %" PRIu64 ", right %" PRIu64 "\n", page, right);
 }
 
 static void view(size_t first, size_t count)
@@ -67,6 +69,7 @@ int main(void)
     scalars[10] = 20;
     scalars[11] = 0xf8;
     scalars[13] = 0xfe;
+    scalars[14] = 0xff0;
     prashunde_reset(control);
     turn("load at reset", 0x02058407, UINT32_MAX);
     turn("vsetvli x12, x10, e8, m2", 0x00157657, 1);
@@ -84,6 +87,8 @@ int main(void)
     turn("its other segments", 0x42058607, UINT32_MAX);
     check("vle32.v v16, (x13)", 0x0206e807);
     turn("vle32.v v16, (x13)", 0x0206e807, UINT32_MAX); /* an element across the end of page 0 is not aligned */
+    rights[15] = 1;
+    check("vle8.v v24, (x14)", 0x02070c07); /* element 16 lies past the end of memory: no page is asked */
     turn("vadd.vv v8, v0, v10, v0.t", 0x00050457, UINT32_MAX); /* v0 is data and mask: read at two EEWs */
     view(8, 2);
     view(14, 2);

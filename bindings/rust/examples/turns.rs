@@ -27,14 +27,17 @@ impl Machine {
         );
         let c = self.control;
         println!(
-            "{name}: answer {}, passed {}, address {}, control {:x} {} {} {} {} {}",
-            t.answer as u64, t.passed, t.address, c.vtype, c.vl, c.vstart, c.vxrm, c.vxsat, c.vs
+            "{name}: answer {}, passed {}, address {}, page {}, right {}, control {:x} {} {} {} {} {}",
+            t.answer as u64, t.passed, t.address, t.wanted.page, t.wanted.right, c.vtype, c.vl, c.vstart, c.vxrm, c.vxsat, c.vs
         );
     }
 
     fn check(&self, name: &str, word: u32) {
         let c = access_check(word, &self.registers, &self.scalars, &self.memory, &self.rights, &self.control);
-        println!("check {name}: answer {}, element {}, pages {}", c.answer as u64, c.element, c.pages);
+        println!(
+            "check {name}: answer {}, element {}, pages {}, page {}, right {}",
+            c.answer as u64, c.element, c.pages, c.wanted.page, c.wanted.right
+        );
     }
 
     fn view(&self, first: usize, count: usize) {
@@ -79,6 +82,7 @@ fn main() {
     m.scalars[10] = 20;
     m.scalars[11] = 0xf8;
     m.scalars[13] = 0xfe;
+    m.scalars[14] = 0xff0;
     m.turn("load at reset", 0x02058407, u32::MAX);
     m.turn("vsetvli x12, x10, e8, m2", 0x00157657, 1);
     m.check("vle8.v v8, (x11)", 0x02058407);
@@ -95,6 +99,8 @@ fn main() {
     m.turn("its other segments", 0x42058607, u32::MAX);
     m.check("vle32.v v16, (x13)", 0x0206e807);
     m.turn("vle32.v v16, (x13)", 0x0206e807, u32::MAX); // an element across the end of page 0 is not aligned
+    m.rights[15] = 1;
+    m.check("vle8.v v24, (x14)", 0x02070c07); // element 16 lies past the end of memory: no page is asked
     m.turn("vadd.vv v8, v0, v10, v0.t", 0x00050457, u32::MAX); // v0 is data and mask: read at two EEWs
     m.view(8, 2);
     m.view(14, 2);

@@ -18,6 +18,8 @@ pub mod ffi {
             control: *mut u64,
             passed: *mut u64,
             address: *mut u64,
+            page: *mut u64,
+            right: *mut u64,
         ) -> u64;
         pub fn prashunde_access_check(
             word: u32,
@@ -32,6 +34,8 @@ pub mod ffi {
             control: *const u64,
             element: *mut u64,
             pages: *mut u64,
+            page: *mut u64,
+            right: *mut u64,
         ) -> u64;
         pub fn prashunde_csr_read(csr: u64, control: *const u64, value: *mut u64) -> u64;
         pub fn prashunde_csr_write(csr: u64, value: u64, control: *mut u64) -> u64;
@@ -134,6 +138,13 @@ impl Control {
     }
 }
 
+/// A page, and the right that was wanted of it: 1 by a load, 2 by a store. Page 256 and right 0 where no page lacked a right.
+#[derive(Clone, Copy, Debug, PartialEq, Eq)]
+pub struct Wanted {
+    pub page: u64,
+    pub right: u64,
+}
+
 /// What a turn gives beside what it leaves in the lent parts. The address is that of the faulting element, or of a segment's first
 /// faulting field.
 #[derive(Clone, Copy, Debug, PartialEq, Eq)]
@@ -141,6 +152,7 @@ pub struct Turned {
     pub answer: Answer,
     pub passed: u64,
     pub address: u64,
+    pub wanted: Wanted,
 }
 
 /// One turn of the instruction `word`, of at most `allowance` elements; of a word that moves segments, of at most so many segments. VS is
@@ -155,7 +167,7 @@ pub fn turn(
     control: &mut Control,
 ) -> Turned {
     let mut fields = control.fields();
-    let (mut passed, mut address) = (0, 0);
+    let (mut passed, mut address, mut page, mut right) = (0, 0, 0, 0);
     let number = unsafe {
         ffi::prashunde_turn(
             word,
@@ -171,6 +183,8 @@ pub fn turn(
             fields.as_mut_ptr(),
             &mut passed,
             &mut address,
+            &mut page,
+            &mut right,
         )
     };
     *control = Control::of(fields);
@@ -178,21 +192,24 @@ pub fn turn(
         answer: Answer::of(number),
         passed,
         address,
+        wanted: Wanted { page, right },
     }
 }
 
-/// What an access check gives: the answer of the turn, the element that would fault and the number of pages tested, at most 2.
+/// What an access check gives: the answer of the turn, the element that would fault, the number of pages tested, at most 2, and what is
+/// wanted of which page.
 #[derive(Clone, Copy, Debug, PartialEq, Eq)]
 pub struct Checked {
     pub answer: Answer,
     pub element: u64,
     pub pages: u64,
+    pub wanted: Wanted,
 }
 
 /// What an uncut turn of the instruction `word` would answer, where it is a unit-stride load or store (plain, of masks or of whole
 /// registers); `Illegal` for every other word. Nothing is changed.
 pub fn access_check(word: u32, registers: &[u8], scalars: &[u64], memory: &[u8], rights: &[u8], control: &Control) -> Checked {
-    let (mut element, mut pages) = (0, 0);
+    let (mut element, mut pages, mut page, mut right) = (0, 0, 0, 0);
     let number = unsafe {
         ffi::prashunde_access_check(
             word,
@@ -207,12 +224,15 @@ pub fn access_check(word: u32, registers: &[u8], scalars: &[u64], memory: &[u8],
             control.fields().as_ptr(),
             &mut element,
             &mut pages,
+            &mut page,
+            &mut right,
         )
     };
     Checked {
         answer: Answer::of(number),
         element,
         pages,
+        wanted: Wanted { page, right },
     }
 }
 

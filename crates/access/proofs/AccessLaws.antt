@@ -1,6 +1,6 @@
 -- The access test by its outcomes; the loop over the fields of a segment.
 use mathlib.Core.Path.{_≡_, refl, sym, ap, _∙_}
-use mathlib.Core.Bool.{Bool, true, false, not, _&&_, cond}
+use mathlib.Core.Bool.{Bool, true, false, not, cond}
 use mathlib.Core.List.{List}
 use Prim.Native.Nat.{ℕ, zero, suc, _+_, _-_, _*_, _/_, _%_, _^_, _≤_, _<_}
 use native.Mathlib.Numerals.{add-one}
@@ -18,7 +18,8 @@ use Rattle.answer.specs.declared.Answer.{Answer}
 use Rattle.access.specs.declared.Fault.{Fault}
 use Rattle.access.specs.declared.AccessTest.{AccessTest}
 use Rattle.access.specs.declared.AccessTest.the-variants.{Granted, Faulted}
-use Rattle.access.specs.Access.{faultAt, pageOf, needed, misaligned, denied, accessOf, fieldAddress, orNext, fieldsAccess}
+use Rattle.access.specs.Access.{pageOf, needed, wantedAt, nothingWanted, faultAt, misaligned, denied, accessOf, fieldAddress, orNext}
+use Rattle.access.specs.Access.{fieldsAccess}
 
 -- the address is a multiple of the size
 pub is-aligned : (a n : ℕ) (t : Bool) → t ≡ eqb (a % n) 0 → not t ≡ false → a % n ≡ 0
@@ -59,7 +60,10 @@ module _ (rights : List ℕ) (memory : ℕ) (store : Bool) (a n : ℕ) where
     where
       go : (aligned inside right : Bool) → eqb (a % n) 0 ≡ aligned → leb (a + n) memory ≡ inside
           → leb (needed store) (getD rights (pageOf a) 0) ≡ right
-          → cond (not aligned) (faultAt (misaligned store) a) (cond (inside && right) Granted (faultAt (denied store) a)) ≡ Granted
+          → cond (not aligned) (faultAt (misaligned store) a nothingWanted)
+          (cond (not inside) (faultAt (denied store) a nothingWanted)
+          (cond right Granted (faultAt (denied store) a (wantedAt store a))))
+          ≡ Granted
           → Grantable rights memory store a n
       go false inside right p q r h = never _ h
       go true false right p q r h = never _ h
@@ -72,19 +76,22 @@ module _ (rights : List ℕ) (memory : ℕ) (store : Bool) (a n : ℕ) where
 
   -- ---- the test by its outcomes
 
-  pub not-aligned : (r : AccessTest) (x : Answer) (t : Bool) → t ≡ eqb (a % n) 0 → not t ≡ true → x ≡ misaligned store → r ≡ faultAt x a
+  pub not-aligned : (r : AccessTest) (x : Answer) (t : Bool) → t ≡ eqb (a % n) 0 → not t ≡ true → x ≡ misaligned store
+      → r ≡ faultAt x a nothingWanted
       → r ≡ accessOf rights memory store a n
   unfolding accessOf
   not-aligned r x t e f p q = rw (← e, f, ← p) q
 
   module _ (e : a % n ≡ 0) where
-    pub past-memory : (r : AccessTest) (x : Answer) → T (byteSize n) → memory ≤ a + (n - 1) → x ≡ denied store → r ≡ faultAt x a
+    pub past-memory : (r : AccessTest) (x : Answer) → T (byteSize n) → memory ≤ a + (n - 1) → x ≡ denied store
+        → r ≡ faultAt x a nothingWanted
         → r ≡ accessOf rights memory store a n
     unfolding accessOf
     past-memory r x t h p q = rw (eq-eqb (a % n) 0 e, lt-leb (a + n) memory (omega (arith, size-pos n t)), ← p) q
 
     module _ (k : ℕ) (h : a + (n - 1) < memory) (g : k ≡ needed store) where
-      pub no-right : (r : AccessTest) (x : Answer) → getD rights (a / 256) 0 < k → x ≡ denied store → r ≡ faultAt x a
+      pub no-right : (r : AccessTest) (x : Answer) → getD rights (a / 256) 0 < k → x ≡ denied store
+          → r ≡ faultAt x a (record { page = a / 256; right = k })
           → r ≡ accessOf rights memory store a n
       unfolding accessOf
       no-right r x l p q =
@@ -132,8 +139,9 @@ module _ (rights : List ℕ) (memory : ℕ) (store : Bool) (a n nf : ℕ) where
         sub-suc : suc nf - k ≡ suc (nf - k)
         sub-suc = omega arith
 
-    pub testing-faulted : (f : Fault) → v ≡ Faulted f → v ≡ fieldsAccess rights memory store a n 0 (suc nf)
-    testing-faulted f q = sym (split ∙ rw q)
+    pub testing-faulted : (f : Fault) (r : AccessTest) → v ≡ Faulted f → r ≡ Faulted f
+        → r ≡ fieldsAccess rights memory store a n 0 (suc nf)
+    testing-faulted f r q e = e ∙ sym (split ∙ rw q)
 
     pub testing-more : (field′ : ℕ) → v ≡ Granted → field′ ≡ (field + n) % 2 ^ 64 → Testing field′ (k + 1)
     testing-more field′ q e = record {

@@ -7,9 +7,24 @@ ghost use Rattle.layout.specs.Layout.{byteSize};
 ghost use Rattle.access.specs.Access.{nowhere, faultAt, needed, misaligned, denied, accessOf, fieldsAccess};
 use answer::Answer;
 
-// Where a fault lies: the address of the faulting element's first byte.
+// The page that was asked, and the right that was wanted of it.
+pub struct Wanted {
+    pub page: u64,
+    pub right: u8,
+}
+
+impl Wanted {
+    // No page was asked.
+    pub const NOTHING: Wanted = Wanted {
+        page: 256,
+        right: 0,
+    };
+}
+
+// Where a fault lies: the address of the faulting element's first byte, and the page and the right that were wanted there.
 pub struct FaultPlace {
     pub address: u64,
+    pub wanted: Wanted,
 }
 
 impl FaultPlace {
@@ -17,7 +32,10 @@ impl FaultPlace {
     pub fn nowhere() -> FaultPlace
         ensures { λ r. ⌜ r ≡ nowhere ⌝ }
     {
-        FaultPlace { address: 0 }
+        FaultPlace {
+            address: 0,
+            wanted: Wanted::NOTHING,
+        }
     }
 }
 
@@ -33,10 +51,10 @@ pub enum AccessTest {
     Faulted(Fault),
 }
 
-fn fault_at(answer: Answer, address: u64) -> AccessTest
-    ensures { λ r. ⌜ r ≡ faultAt answer address ⌝ }
+fn fault_at(answer: Answer, address: u64, wanted: Wanted) -> AccessTest
+    ensures { λ r. ⌜ r ≡ faultAt answer address wanted ⌝ }
 {
-    let place = FaultPlace { address };
+    let place = FaultPlace { address, wanted };
     AccessTest::Faulted(Fault { answer, place })
 }
 
@@ -81,17 +99,22 @@ pub fn access(rights: &[u8], memory: usize, store: bool, a: u64, n: u64) -> Acce
     ensures { λ r. ⌜ r ≡ accessOf (now (rights .entry)) memory store a n ⌝ }
 {
     if !aligned(a, n) {
-        return fault_at(misaligned_answer(store), a);
+        return fault_at(misaligned_answer(store), a, Wanted::NOTHING);
     }
     // an aligned element ends below 2^64
     let last = a + (n - 1);
     let size = memory as u64;
+    if size <= last {
+        return fault_at(denied_answer(store), a, Wanted::NOTHING);
+    }
     // below the end of memory it is one of the 256 pages, and that of every byte of the element
-    let page = (a / 256) as usize;
-    if last < size && right_needed(store) <= rights[page] {
+    let page = a / 256;
+    let own = rights[page as usize];
+    let right = right_needed(store);
+    if right <= own {
         return AccessTest::Granted;
     }
-    fault_at(denied_answer(store), a)
+    fault_at(denied_answer(store), a, Wanted { page, right })
 }
 
 // The fields of a segment, each of n bytes, upward from the one at address a; nf of them follow it.

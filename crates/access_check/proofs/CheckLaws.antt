@@ -190,7 +190,12 @@ module _ (b : Board) (s : State) (e : Elementwise) (t : Transfer) (u : Stepping 
 
   -- what the check gives of the outcome of the turn
   abbrev checked : Outcome → Checked
-  checked o = record { answer = o .answer; element = o .after .control .vstart; pages = pagesTested b s o e (e .action) }
+  checked o = record {
+    answer = o .answer;
+    element = o .after .control .vstart;
+    pages = pagesTested b s o e (e .action);
+    wanted = o .place .wanted;
+  }
 
   granted-effect : (i : ℕ) → testOf active (s .rights) (length (s .memory)) t i ≡ Granted
       → faults (effectOf b (s .rights) (coreOf s) e i) ≡ false

@@ -1,7 +1,7 @@
 -- What the access check says beforehand of the turn holds of the definition, on every board that the machine is for.
 use Prim.Native.Nat.{ℕ, _-_, _^_, _≤_, min}
 use mathlib.Core.Path.{_≡_, refl, sym, ap, subst}
-use mathlib.Core.Bool.{Bool, true, false, _&&_}
+use mathlib.Core.Bool.{Bool, true, false}
 use mathlib.Core.Option.{Option, none, some}
 use native.Mathlib.Omega.{arith}
 use lib.ListN.{length}
@@ -10,13 +10,13 @@ use Rattle.laws.proofs.Apart.{both-left}
 use Rattle.laws.proofs.Chain.{either}
 use Rattle.answer.specs.declared.Answer.{Answer}
 use Rattle.answer.specs.declared.Answer.the-variants.{Finished, Paused, Illegal}
-use Rattle.answer.specs.declared.Answer.the-variants.{LoadMisaligned, LoadAccess, StoreMisaligned, StoreAccess}
-use Rattle.answer.specs.declared.Answer.the-variants.{BadRegisters, BadScalars, BadMemory, BadRights, BadControl, NoGroup}
 use Rattle.control.specs.declared.Board.{Board}
 use Rattle.control.specs.Board.{Valid, base}
 use Rattle.control.proofs.Laws.{base-valid, Possible, possible-apart}
 use Rattle.decode.specs.Word.{decodeOf}
 use Rattle.decode.proofs.Fields.{fits}
+use Rattle.access.specs.declared.FaultPlace.{FaultPlace}
+use Rattle.access.specs.Access.{nothingWanted}
 use Rattle.plan.specs.declared.Transfer.{Transfer}
 use Rattle.plan.specs.declared.OneTurn.{OneTurn}
 use Rattle.plan.specs.declared.Plan.{Plan}
@@ -30,6 +30,7 @@ use Rattle.machine.specs.Demands.{isTrap, changesNothing}
 use Rattle.machine.proofs.PlanFacts.{plan-sound}
 use Rattle.machine.proofs.Lawful.{facts, lawful}
 use Rattle.machine.proofs.Demands.{apart, turnWith, pointOf, answer-cases, counted}
+use Rattle.machine.proofs.FaultPages.{never-both, fault-pages}
 use Rattle.element_loop.specs.Runnable.{Runnable}
 use Rattle.unit_stride.specs.declared.Checked.{Checked}
 use Rattle.unit_stride.proofs.FewPages.{found, at-most-two}
@@ -53,22 +54,6 @@ module _ (I : Semantics) (r : I .Rights) (m n : ℕ) (p : Point I) where
           → answered I x p (legal I r p (min m (remaining I p))) ≡ answered I x p (legal I r p (min n (remaining I p)))
       go (some x) e = refl
       go none e = let q : min m (remaining I p) ≡ min n (remaining I p) = omega (arith, h e) in rw q
-
--- no answer is a trap's that changes nothing
-never-both : (a : Answer) → (changesNothing a && isTrap a) ≡ false
-never-both Finished = refl
-never-both Paused = refl
-never-both Illegal = refl
-never-both LoadMisaligned = refl
-never-both LoadAccess = refl
-never-both StoreMisaligned = refl
-never-both StoreAccess = refl
-never-both BadRegisters = refl
-never-both BadScalars = refl
-never-both BadMemory = refl
-never-both BadRights = refl
-never-both BadControl = refl
-never-both NoGroup = refl
 
 module _ (b : Board) (w : Valid b) (word : ℕ) (s : State) where
   abbrev plan : Plan
@@ -117,7 +102,12 @@ module _ (b : Board) (w : Valid b) (word : ℕ) (s : State) where
 
   by-outcome : (P : Checked → Type 0) → (changesNothing (o .answer) ≡ true → P (nothingTested (o .answer)))
       → (changesNothing (o .answer) ≡ false → isUnitStride (decodeOf word) ≡ true
-      → P (record { answer = o .answer; element = o .after .control .vstart; pages = planPages b s o plan }))
+      → P (record {
+        answer = o .answer;
+        element = o .after .control .vstart;
+        pages = planPages b s o plan;
+        wanted = o .place .wanted;
+      }))
       → (isUnitStride (decodeOf word) ≡ false → P (nothingTested Illegal)) → P (accessCheckOf b word s)
   unfolding accessCheckOf
   by-outcome P f g h =
@@ -130,11 +120,20 @@ module _ (b : Board) (w : Valid b) (word : ℕ) (s : State) where
       (λ u e. absurd (let y : _≡_ {A = ℕ} 0 1 = cc in omega arith))
 
   traps : isTrap (accessCheckOf b word s .answer) ≡ true
-      → (o .answer ≡ accessCheckOf b word s .answer) × (o .after .control .vstart ≡ accessCheckOf b word s .element)
-  traps = by-outcome (λ c. isTrap (c .answer) ≡ true → (o .answer ≡ c .answer) × (o .after .control .vstart ≡ c .element))
+      → (o .answer ≡ accessCheckOf b word s .answer)
+      × ((o .after .control .vstart ≡ accessCheckOf b word s .element) × (o .place .wanted ≡ accessCheckOf b word s .wanted))
+  traps = by-outcome
+      (λ c. isTrap (c .answer) ≡ true
+      → (o .answer ≡ c .answer) × ((o .after .control .vstart ≡ c .element) × (o .place .wanted ≡ c .wanted)))
       (λ t e. absurd (subst T (never-both (o .answer)) (rw (t, e) tt)))
-      (λ t u e. (refl, refl))
+      (λ t u e. (refl, (refl, refl)))
       (λ u e. absurd (subst T (sym e) tt))
+
+  no-trap : isTrap (accessCheckOf b word s .answer) ≡ false → accessCheckOf b word s .wanted ≡ nothingWanted
+  no-trap = by-outcome (λ c. isTrap (c .answer) ≡ false → c .wanted ≡ nothingWanted)
+      (λ t e. refl)
+      (λ t u e. ap (λ (p : FaultPlace). p .wanted) (fault-pages b .no-trap word (2 ^ 32 - 1) s e))
+      (λ u e. refl)
 
   unpaused : accessCheckOf b word s .answer ≡ Paused → ⊥
   unpaused = by-outcome (λ c. c .answer ≡ Paused → ⊥)
@@ -191,6 +190,7 @@ pub foretold-on : (b : Board) → Valid b → Foretold b
 foretold-on b w = record {
   finishes = λ word s. finishes b w word s;
   traps = λ word s. traps b w word s;
+  no-trap = λ word s. no-trap b w word s;
   unpaused = λ word s. unpaused b w word s;
   same-answer = λ word s. same-answer b w word s;
   enough = λ word n s. uncut-same b w word s n;

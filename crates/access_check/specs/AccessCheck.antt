@@ -1,5 +1,5 @@
--- The access check (document 02, A2): what an uncut turn of a unit-stride access would answer, at which element, and how many pages are
--- tested for that.
+-- The access check (document 02, A2): what an uncut turn of a unit-stride access would answer, at which element, how many pages are
+-- tested for that, and which right of which page is wanted (A9).
 use Prim.Native.Nat.{ℕ, _+_, _-_, _^_}
 use mathlib.Core.Bool.{Bool, true, false, _&&_, cond}
 use lib.ListN.{length}
@@ -13,7 +13,7 @@ use Rattle.decode.specs.declared.Mode.the-variants as M
 use Rattle.decode.specs.declared.Instruction.{Instruction}
 use Rattle.decode.specs.declared.Instruction.the-variants as I
 use Rattle.decode.specs.Word.{decodeOf}
-use Rattle.access.specs.Access.{pageOf}
+use Rattle.access.specs.Access.{pageOf, nothingWanted}
 use Rattle.plan.specs.declared.Action.{Action}
 use Rattle.plan.specs.declared.Action.the-variants as A
 use Rattle.plan.specs.declared.Transfer.{Transfer}
@@ -68,7 +68,7 @@ module _ (b : Board) (s : State) (o : Outcome) where
 
 -- "a refusal shows element 0 and 0 pages", and so does 2
 abbrev pub nothingTested : Answer → Checked
-nothingTested a = record { answer = a; element = 0; pages = 0 }
+nothingTested a = record { answer = a; element = 0; pages = 0; wanted = nothingWanted }
 
 -- "Either way it equals what a turn with enough allowance answers". Where the turn traps, vstart after it is the element; where it
 -- finishes, that is 0. "Refusals: 32 to 36 and 2 as for a turn; any word but .. unit-stride access is 2"
@@ -77,5 +77,10 @@ accessCheckOf b word s =
     let o : Outcome = turnOf b word (2 ^ 32 - 1) s in
     cond (changesNothing (o .answer)) (nothingTested (o .answer))
     (cond (isUnitStride (decodeOf word))
-    (record { answer = o .answer; element = o .after .control .vstart; pages = planPages b s o (planAt b word s) })
+    (record {
+      answer = o .answer;
+      element = o .after .control .vstart;
+      pages = planPages b s o (planAt b word s);
+      wanted = o .place .wanted;
+    })
     (nothingTested Illegal))

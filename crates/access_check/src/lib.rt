@@ -9,6 +9,7 @@ ghost use Rattle.machine.specs.Call.{given};
 ghost use Rattle.machine.specs.Effect.{activeOf};
 ghost use Rattle.unit_stride.specs.Tested.{Packed, MaskInside, Tested};
 ghost use Rattle.access_check.specs.AccessCheck.{unitStrideMode, isUnitStride, nothingTested, accessCheckOf};
+use access::Wanted;
 use answer::Answer;
 use answer::Verdict;
 use control::Board;
@@ -28,6 +29,7 @@ fn nothing_tested(answer: Answer) -> Checked
         answer,
         element: 0,
         pages: 0,
+        wanted: Wanted::NOTHING,
     }
 }
 

@@ -19,14 +19,17 @@ use Rattle.access_check.specs.AccessCheck.{accessCheckOf}
 use Rattle.capi.specs.Crossing.{Shows, Tells}
 
 pub shown :
-    (word n : ℕ) (t : Turned) (r s m r′ s′ m′ p : List ℕ) (c c₀ : Control) (l : List ℕ) (a passed address : ℕ) → c ≡ c₀ →
+    (word n : ℕ) (t : Turned) (r s m r′ s′ m′ p : List ℕ) (c c₀ : Control) (l : List ℕ) (a passed address page right : ℕ) →
+    c ≡ c₀ →
     left t r′ s′ m′ p ≡ turnOf base word n (given r s m p c) → a ≡ numberOf (t .answer) → passed ≡ t .passed →
-    address ≡ t .place .address → l ≡ fieldsOf (t .control) →
-    Shows (turnOf base word n (given r s m p c₀)) a passed address r′ s′ m′ p l
-shown word n t r s m r′ s′ m′ p c c₀ l a passed address e h f g k u = rw (← e, ← h) (record {
+    address ≡ t .place .address → page ≡ t .place .wanted .page → right ≡ t .place .wanted .right → l ≡ fieldsOf (t .control) →
+    Shows (turnOf base word n (given r s m p c₀)) a passed address page right r′ s′ m′ p l
+shown word n t r s m r′ s′ m′ p c c₀ l a passed address page right e h f g k x y u = rw (← e, ← h) (record {
   answer-is = f;
   passed-is = g;
   address-is = k;
+  page-is = x;
+  right-is = y;
   registers-are = refl;
   scalars-are = refl;
   memory-is = refl;
@@ -35,10 +38,12 @@ shown word n t r s m r′ s′ m′ p c c₀ l a passed address e h f g k u = rw
 })
 
 pub told :
-    (word : ℕ) (t : Checked) (r s m p : List ℕ) (c c₀ : Control) (a element pages : ℕ) → c ≡ c₀ →
+    (word : ℕ) (t : Checked) (r s m p : List ℕ) (c c₀ : Control) (a element pages page right : ℕ) → c ≡ c₀ →
     t ≡ accessCheckOf base word (given r s m p c) → a ≡ numberOf (t .answer) → element ≡ t .element → pages ≡ t .pages →
-    Tells (accessCheckOf base word (given r s m p c₀)) a element pages
-told word t r s m p c c₀ a element pages e h f g k = rw (← e, ← h) (record { answer-is = f; element-is = g; pages-are = k })
+    page ≡ t .wanted .page → right ≡ t .wanted .right →
+    Tells (accessCheckOf base word (given r s m p c₀)) a element pages page right
+told word t r s m p c c₀ a element pages page right e h f g k x y =
+    rw (← e, ← h) (record { answer-is = f; element-is = g; pages-are = k; page-is = x; right-is = y })
 
 module _ (fields : List ℕ) (c : Control) (e : c ≡ recordOf fields) where
   pub read-number :

@@ -27,14 +27,16 @@ pub extern "C" fn prashunde_turn(
     control: &mut [u64; 6],
     passed: &mut u64,
     address: &mut u64,
+    page: &mut u64,
+    right: &mut u64,
 ) -> u64
     ensures { λ r. ⌜
         Shows
         (turnOf base word allowance
         (given (now (registers .entry)) (now (scalars .entry)) (now (memory .entry)) (now (rights .entry))
         (recordOf (now (control .entry)))))
-        r (now (passed .exit)) (now (address .exit)) (now (registers .exit)) (now (scalars .exit)) (now (memory .exit))
-        (now (rights .entry)) (now (control .exit))
+        r (now (passed .exit)) (now (address .exit)) (now (page .exit)) (now (right .exit)) (now (registers .exit))
+        (now (scalars .exit)) (now (memory .exit)) (now (rights .entry)) (now (control .exit))
         ⌝ }
 {
     let turned = turn::turn(
@@ -48,15 +50,18 @@ pub extern "C" fn prashunde_turn(
     );
     let answer = turned.answer;
     let place = turned.place;
+    let wanted = place.wanted;
     let after = turned.control;
     *control = after.fields();
     *passed = turned.passed;
     *address = place.address;
+    *page = wanted.page;
+    *right = wanted.right as u64;
     answer::number(answer)
 }
 
-// What an uncut turn of a unit-stride access would answer: the answer's number, the element and the number of pages tested. All that is
-// lent for reading is as before.
+// What an uncut turn of a unit-stride access would answer: the answer's number, the element, the number of pages tested, and the page and
+// the right that are wanted. All that is lent for reading is as before.
 #[no_mangle]
 pub extern "C" fn prashunde_access_check(
     word: u32,
@@ -67,13 +72,15 @@ pub extern "C" fn prashunde_access_check(
     control: &[u64; 6],
     element: &mut u64,
     pages: &mut u64,
+    page: &mut u64,
+    right: &mut u64,
 ) -> u64
     ensures { λ r. ⌜
         Tells
         (accessCheckOf base word
         (given (now (registers .entry)) (now (scalars .entry)) (now (memory .entry)) (now (rights .entry))
         (recordOf (now (control .entry)))))
-        r (now (element .exit)) (now (pages .exit)) ⌝ }
+        r (now (element .exit)) (now (pages .exit)) (now (page .exit)) (now (right .exit)) ⌝ }
     ensures { λ _. ⌜
         (now (registers .exit) ≡ now (registers .entry))
         × ((now (scalars .exit) ≡ now (scalars .entry))
@@ -89,8 +96,11 @@ pub extern "C" fn prashunde_access_check(
         Control::of_fields(*control),
     );
     let answer = checked.answer;
+    let wanted = checked.wanted;
     *element = checked.element;
     *pages = checked.pages;
+    *page = wanted.page;
+    *right = wanted.right as u64;
     answer::number(answer)
 }
 

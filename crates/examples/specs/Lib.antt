@@ -1,3 +1,4 @@
 pub mod Values
 pub mod SourceCases
 pub mod SegmentCases
+pub mod TrapCases

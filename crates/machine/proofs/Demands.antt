@@ -93,7 +93,7 @@ board-refuses : (b : Board) (registers scalars memory : ℕ) (rights : List ℕ)
 unfolding refusalOf
 board-refuses b registers scalars memory rights c = search (accepts, refuses, either (Refuses refusalOnly)) depth 8
 
-abbrev Rejecting : Option Answer → Type 0
+abbrev pub Rejecting : Option Answer → Type 0
 Rejecting none = Unit {0}
 Rejecting (some a) = changesNothing a ≡ true
 
@@ -101,7 +101,7 @@ rejecting-else : (v : Verdict) (o : Option Answer) → Refuses refusalOnly v →
 rejecting-else Accepted o h k = k
 rejecting-else (Refused a) o (refuses h) k = both-left (changesNothing a) (not (isTrap a)) h
 
-rejection-rejects : (b : Board) (p : Plan) (rights : List ℕ) (s : Core) (v : ℕ) → Rejecting (rejectionAt b p rights s v)
+pub rejection-rejects : (b : Board) (p : Plan) (rights : List ℕ) (s : Core) (v : ℕ) → Rejecting (rejectionAt b p rights s v)
 unfolding rejectionAt
 rejection-rejects b p rights s v =
     rejecting-else _ _ (board-refuses b _ _ _ rights _)

@@ -7,4 +7,5 @@ pub mod Demands
 pub mod Theorems
 pub mod TwoEews
 pub mod Status
+pub mod FaultPages
 pub mod FieldsApart

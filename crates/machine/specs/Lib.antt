@@ -6,4 +6,5 @@ pub mod Call
 pub mod Demands
 pub mod TwoEews
 pub mod Status
+pub mod FaultPages
 pub mod FieldsApart

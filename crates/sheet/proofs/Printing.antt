@@ -4,12 +4,13 @@ use mathlib.Core.Path.{_≡_, refl, sym, ap, subst, _∙_}
 use mathlib.Core.List.{List, [], _∷_, _++_, append-nil}
 use mathlib.Core.Bool.{true, false, _&&_}
 use lib.ListN.{length, set, drop, length-append, length-drop, drop-of-length-le, replicate, length-replicate}
-use lib.Dec.{eqb}
+use lib.Dec.{leb, eqb}
 use borrow.Author.Tests.{eq-eqb, ne-eqb, le-leb, lt-leb}
 use native.Mathlib.Numerals.{add-one}
 use native.Mathlib.Omega.{arith}
 use Rattle.answer.specs.declared.Answer.{Answer}
 use Rattle.answer.specs.Answer.{numberOf}
+use Rattle.access.specs.declared.Wanted.{Wanted}
 use Rattle.control.specs.declared.Control.{Control}
 use Rattle.text.specs.Text.{ascii, hex, decimal, line, Wrote}
 use Rattle.text.proofs.TextLaws.{both, nothing, kept, over-none, over-whole, decimal-length}
@@ -21,8 +22,8 @@ use Rattle.sheet_read.specs.Sheet.{marksFrom, rightsAt, x10From, x11From, x12Fr
 use Rattle.sheet_read.specs.Sheet.{firstBad, sheetOf}
 use Rattle.machine.specs.State.{State}
 use Rattle.machine.specs.Call.{given}
-use Rattle.sheet.specs.Run.{memoryTo, scalarsOf, from, reportControl, report, runOf, valueText, registerLine, registerLines}
-use Rattle.sheet.specs.Run.{finalOf, badSheet, sheetFrom, goodSheet, printed, buffered}
+use Rattle.sheet.specs.Run.{memoryTo, scalarsOf, from, reportWanted, reportControl, report, runOf, valueText, registerLine}
+use Rattle.sheet.specs.Run.{registerLines, finalOf, badSheet, sheetFrom, goodSheet, printed, buffered}
 use Rattle.sheet.specs.Bounds.{valueLength, registerBound}
 use Rattle.sheet.specs.Left.{Ended, Zeros}
 
@@ -34,13 +35,27 @@ pub four : {o s t u v o1 o2 o3 o4 : List ℕ} {a a1 a2 a3 a4 : ℕ} → Wrote o 
     → Wrote o3 a3 v o4 a4 → Wrote o a (s ++ (t ++ (u ++ v))) o4 a4
 four p q r w = both p (three q r w)
 
-pub report-wrote : {o o1 o2 o3 : List ℕ} {a a1 a2 a3 : ℕ} (word number : ℕ) (answer : Answer) (c : Control) → number ≡ numberOf answer
+-- ---- a turn
+
+pub no-trap : (o : List ℕ) (a answer : ℕ) (w : Wanted) → (leb 4 answer && leb answer 7) ≡ false → Wrote o a (reportWanted answer w) o a
+unfolding reportWanted
+no-trap o a answer w h = rw h (nothing o a)
+
+pub wanted-wrote : {o o1 o2 : List ℕ} {a a1 a2 : ℕ} (answer : ℕ) (w : Wanted) → (leb 4 answer && leb answer 7) ≡ true
+    → Wrote o a (line (ascii "page=") (decimal (w .page))) o1 a1 → Wrote o1 a1 (line (ascii "right=") (decimal (w .right))) o2 a2
+    → Wrote o a (reportWanted answer w) o2 a2
+unfolding reportWanted
+wanted-wrote answer w h p q = rw h (both p q)
+
+pub report-wrote : {o o1 o2 o3 o4 : List ℕ} {a a1 a2 a3 a4 : ℕ} (word number : ℕ) (answer : Answer) (w : Wanted) (c : Control)
+    → number ≡ numberOf answer
     → Wrote o a (line (ascii "word=") (hex 8 word)) o1 a1
     → Wrote o1 a1 (line (ascii "answer=") (decimal number)) o2 a2
-    → Wrote o2 a2 (reportControl c) o3 a3
-    → Wrote o a (report word answer c) o3 a3
+    → Wrote o2 a2 (reportWanted number w) o3 a3
+    → Wrote o3 a3 (reportControl c) o4 a4
+    → Wrote o a (report word answer w c) o4 a4
 unfolding report
-report-wrote word number answer c e p q r = three p (rw e at q) r
+report-wrote word number answer w c e p q r t = four p (rw e at q) (rw e at r) t
 
 pub bad-wrote : {o o1 o2 : List ℕ} {a a1 a2 : ℕ} (n : ℕ)
     → Wrote o a (ascii "sheet=bad\n") o1 a1 → Wrote o1 a1 (line (ascii "line=") (decimal n)) o2 a2 → Wrote o a (badSheet n) o2 a2

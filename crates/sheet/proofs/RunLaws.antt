@@ -33,7 +33,7 @@ AsLong out₀ registers₀ scalars₀ memory₀ out registers scalars memory =
 
 pub turn-leaves : {out after : List ℕ} {at : ℕ} (next word allow : ℕ) (s : State) (t : Turned) (registers scalars memory rights : List ℕ)
     → left t registers scalars memory rights ≡ turnOf base word allow s
-    → Wrote out at (report word (t .answer) (t .control)) after next
+    → Wrote out at (report word (t .answer) (t .place .wanted) (t .control)) after next
     → Leaves (turned word allow s) out at after (record { at = next; answer = t .answer; control = t .control })
     registers scalars memory rights
 turn-leaves next word allow s t registers scalars memory rights e w = rw (← e) (record { wrote = w; answer = refl; state = refl })

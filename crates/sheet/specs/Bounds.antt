@@ -8,7 +8,10 @@ use Rattle.sheet.specs.Run.{mostTurns}
 abbrev pub mostDigits : ℕ
 mostDigits = 20
 
--- a turn's report: vstart, vl, vtype and vs; and all its lines, 14 + 28 + controlBound bytes at most, with room for two lines more
+-- a turn's report: page and right; vstart, vl, vtype and vs; and all its lines, 14 + 28 + wantedBound + controlBound bytes at most
+abbrev pub wantedBound : ℕ
+wantedBound = (5 + mostDigits + 1) + (6 + mostDigits + 1)
+
 abbrev pub controlBound : ℕ
 controlBound = (7 + mostDigits + 1) + (3 + mostDigits + 1) + (6 + 16 + 1) + (3 + mostDigits + 1)
 

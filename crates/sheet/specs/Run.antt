@@ -1,4 +1,4 @@
--- What a sheet prints (document 01, 'The sheet runner'; document 02, A8).
+-- What a sheet prints (document 01, 'The sheet runner'; document 02, A8 and A9).
 use Prim.Native.Nat.{ℕ, zero, suc, _+_, _*_, _%_}
 use mathlib.Core.Bool.{Bool, _&&_, cond}
 use mathlib.Core.List.{List, [], _∷_, _++_}
@@ -7,6 +7,7 @@ use lib.Dec.{leb, eqb}
 use Rattle.answer.specs.declared.Answer.{Answer}
 use Rattle.answer.specs.declared.Answer.the-variants.{Finished, Paused}
 use Rattle.answer.specs.Answer.{numberOf}
+use Rattle.access.specs.declared.Wanted.{Wanted}
 use Rattle.control.specs.declared.Control.{Control}
 use Rattle.control.specs.Board.{base}
 use Rattle.control.specs.Control.{reset}
@@ -51,18 +52,25 @@ from s = record { text = []; answer = Finished; state = s }
 abbrev pub joined : Progress → Progress → Progress
 joined p q = record { text = p .text ++ q .text; answer = q .answer; state = q .state }
 
+-- "page and right lines in decimal after an answer of 4 to 7" (document 02, A9): by the answer's number
+unfoldable pub reportWanted : ℕ → Wanted → List ℕ
+reportWanted answer w =
+    cond (leb 4 answer && leb answer 7) (line (ascii "page=") (decimal (w .page)) ++ line (ascii "right=") (decimal (w .right))) []
+
 -- "After each turn: word, answer, vstart, vl (decimal but word), vtype (16 hex)"; "a vs line after each vtype line" (document 02, A8)
 abbrev pub reportControl : Control → List ℕ
 reportControl c =
     line (ascii "vstart=") (decimal (c .vstart)) ++
     (line (ascii "vl=") (decimal (c .vl)) ++ (line (ascii "vtype=") (hex 16 (c .vtype)) ++ line (ascii "vs=") (decimal (c .vs))))
 
-unfoldable pub report : ℕ → Answer → Control → List ℕ
-report word answer c =
-    line (ascii "word=") (hex 8 word) ++ (line (ascii "answer=") (decimal (numberOf answer)) ++ reportControl c)
+unfoldable pub report : ℕ → Answer → Wanted → Control → List ℕ
+report word answer w c =
+    line (ascii "word=") (hex 8 word) ++
+    (line (ascii "answer=") (decimal (numberOf answer)) ++ (reportWanted (numberOf answer) w ++ reportControl c))
 
 abbrev pub reported : ℕ → Outcome → Progress
-reported word o = record { text = report word (o .answer) (o .after .control); answer = o .answer; state = o .after }
+reported word o =
+    record { text = report word (o .answer) (o .place .wanted) (o .after .control); answer = o .answer; state = o .after }
 
 abbrev pub turned : ℕ → ℕ → State → Progress
 turned word allow s = reported word (turnOf base word allow s)

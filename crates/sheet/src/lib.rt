@@ -6,11 +6,12 @@ ghost use Rattle.control.specs.Control.{reset};
 ghost use Rattle.text.specs.Text.{Wrote};
 ghost use Rattle.machine.specs.Call.{given};
 ghost use Rattle.sheet_read.specs.Sheet.{afterAllow, wordAt, mostWords, wordsAt, sheetOf};
-ghost use Rattle.sheet.specs.Run.{memoryTo, scalarsOf, from, reportControl, report, turned, wordOf, runOf, valueText, registerLine};
-ghost use Rattle.sheet.specs.Run.{registerLines, scalarLines, finalOf, badSheet, sheetFrom, goodSheet, printed, buffered};
-ghost use Rattle.sheet.specs.Bounds.{controlBound, reportBound, wordBound, wordsBound, scalarsLength, valueLength, registerBound};
-ghost use Rattle.sheet.specs.Bounds.{registersBound, finalBound, sheetBound};
+ghost use Rattle.sheet.specs.Run.{memoryTo, scalarsOf, from, reportWanted, reportControl, report, turned, wordOf, runOf, valueText};
+ghost use Rattle.sheet.specs.Run.{registerLine, registerLines, scalarLines, finalOf, badSheet, sheetFrom, goodSheet, printed, buffered};
+ghost use Rattle.sheet.specs.Bounds.{wantedBound, controlBound, reportBound, wordBound, wordsBound, scalarsLength, valueLength};
+ghost use Rattle.sheet.specs.Bounds.{registerBound, registersBound, finalBound, sheetBound};
 ghost use Rattle.sheet.specs.Left.{Leaves, Ended, Zeros};
+use access::Wanted;
 use answer::Answer;
 use control::Control;
 
@@ -27,6 +28,18 @@ pub struct Ran {
     pub control: Control,
 }
 
+// The page and the right that were wanted, in the report of a turn with this answer: of a trap.
+fn report_wanted(out: &mut [u8], at: usize, answer: u64, wanted: Wanted) -> usize
+    requires { ⌜ at ≤ 2 ^ 25 ⌝ }
+    ensures { λ r. ⌜ Wrote (now (out .entry)) at (reportWanted answer wanted) (now (out .exit)) r × (r ≤ at + wantedBound) ⌝ }
+{
+    if (4 <= answer) & (answer <= 7) {
+        let a = text::decimal_line(out, at, b"page=", wanted.page);
+        return text::decimal_line(out, a, b"right=", wanted.right as u64);
+    }
+    at
+}
+
 // The control record in a report.
 fn report_control(out: &mut [u8], at: usize, control: Control) -> usize
     requires { ⌜ at ≤ 2 ^ 25 ⌝ }
@@ -39,13 +52,22 @@ fn report_control(out: &mut [u8], at: usize, control: Control) -> usize
 }
 
 // The report of a turn.
-fn report_turn(out: &mut [u8], at: usize, word: u32, answer: Answer, control: Control) -> usize
+fn report_turn(
+    out: &mut [u8],
+    at: usize,
+    word: u32,
+    answer: Answer,
+    wanted: Wanted,
+    control: Control,
+) -> usize
     requires { ⌜ at ≤ 2 ^ 24 ⌝ }
-    ensures { λ r. ⌜ Wrote (now (out .entry)) at (report word answer control) (now (out .exit)) r × (r ≤ at + reportBound) ⌝ }
+    ensures { λ r. ⌜ Wrote (now (out .entry)) at (report word answer wanted control) (now (out .exit)) r × (r ≤ at + reportBound) ⌝ }
 {
+    let number = answer::number(answer);
     let a = text::hex_line(out, at, b"word=", 8, word as u64);
-    let b = text::decimal_line(out, a, b"answer=", answer::number(answer));
-    report_control(out, b, control)
+    let b = text::decimal_line(out, a, b"answer=", number);
+    let c = report_wanted(out, b, number, wanted);
+    report_control(out, c, control)
 }
 
 // One turn and its report.
@@ -69,9 +91,11 @@ fn take_turn(
 {
     let t = turn::turn(word, allow, registers, scalars, memory, rights, control);
     let answer = t.answer;
+    let place = t.place;
+    let wanted = place.wanted;
     let next = t.control;
     Ran {
-        at: report_turn(out, at, word, answer, next),
+        at: report_turn(out, at, word, answer, wanted, next),
         answer,
         control: next,
     }

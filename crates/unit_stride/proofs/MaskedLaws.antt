@@ -17,7 +17,7 @@ use Rattle.layout.specs.Layout.{Inside}
 use Rattle.access.specs.declared.Fault.{Fault}
 use Rattle.access.specs.declared.AccessTest.{AccessTest}
 use Rattle.access.specs.declared.AccessTest.the-variants.{Granted, Faulted}
-use Rattle.access.specs.Access.{pageOf, accessOf}
+use Rattle.access.specs.Access.{pageOf, nothingWanted, accessOf}
 use Rattle.plan.specs.declared.Transfer.{Transfer}
 use Rattle.machine.specs.Effect.{elementAddress}
 use Rattle.unit_stride.specs.declared.Tally.{Tally}
@@ -133,10 +133,11 @@ module _ (active : ℕ → Bool) (rights : List ℕ) (memory : ℕ) (t : Transfe
       fault-pages false e a = rw add-zero (w .counted .count)
 
       element-faulted : (f : Fault) → testOf active rights memory t (v + k) ≡ Faulted f
-          → Tested active rights memory t v n (record { answer = f .answer; element = v + k; pages = seen .pages })
+          → Tested active rights memory t v n
+          (record { answer = f .answer; element = v + k; pages = seen .pages; wanted = f .place .wanted })
       element-faulted f h =
           let a : active (v + k) ≡ true = faulted-active (active (v + k)) f refl h in
-          faults active rights memory t v n k (v + k) (seen .pages) (f .answer) f l (w .passed) h refl refl
+          faults active rights memory t v n k (v + k) (seen .pages) (f .answer) (f .place .wanted) f l (w .passed) h refl refl refl
           (rw a (fault-pages (inside (v + k)) refl a))
 
       -- from what the code has: whether the element is active, its address, whether its page is tested, the tally after it and its test
@@ -153,7 +154,8 @@ module _ (active : ℕ → Bool) (rights : List ℕ) (memory : ℕ) (t : Transfe
         walking-more z = rw the-tally (element-passed (the-test ∙ z))
 
         pub walking-fault : (f : Fault) → x ≡ Faulted f
-            → Tested active rights memory t v n (record { answer = f .answer; element = v + k; pages = c′ .pages })
+            → Tested active rights memory t v n
+            (record { answer = f .answer; element = v + k; pages = c′ .pages; wanted = f .place .wanted })
         walking-fault f z = rw the-tally (element-faulted f (the-test ∙ z))
 
     pub index-fits : (k : ℕ) → k < n → Fits w64 (v + k)
@@ -163,7 +165,7 @@ module _ (active : ℕ → Bool) (rights : List ℕ) (memory : ℕ) (t : Transfe
     tally-few k c w = omega (arith, w .counted .few, w .within, g .few)
 
   pub walking-done : (k : ℕ) (c : Tally) → Walking k c → n ≤ k
-      → Tested active rights memory t v n (record { answer = Finished; element = 0; pages = c .pages })
+      → Tested active rights memory t v n (record { answer = Finished; element = 0; pages = c .pages; wanted = nothingWanted })
   walking-done k c w l =
       let e : k ≡ n = omega (arith, w .within) in
       finishes active rights memory t v n (c .pages) (λ j m. w .passed j (omega arith)) (rw (← e) (w .counted .count))

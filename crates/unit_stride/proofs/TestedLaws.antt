@@ -1,4 +1,4 @@
--- What comes of testing the elements, from what the code has: an answer, an element and a number of pages.
+-- What comes of testing the elements, from what the code has: an answer, an element, a number of pages, and what was wanted of a page.
 use Prim.Native.Nat.{ℕ, _+_, _<_}
 use mathlib.Core.Path.{_≡_}
 use mathlib.Core.Bool.{Bool, true, false, not, cond}
@@ -7,9 +7,11 @@ use borrow.Author.Tests.{not-true, not-false}
 use Rattle.width.specs.Width.{flag}
 use Rattle.answer.specs.declared.Answer.{Answer}
 use Rattle.answer.specs.declared.Answer.the-variants.{Finished}
+use Rattle.access.specs.declared.Wanted.{Wanted}
 use Rattle.access.specs.declared.Fault.{Fault}
 use Rattle.access.specs.declared.AccessTest.{AccessTest}
 use Rattle.access.specs.declared.AccessTest.the-variants.{Granted, Faulted}
+use Rattle.access.specs.Access.{nothingWanted}
 use Rattle.plan.specs.declared.Action.the-variants as A
 use Rattle.access.proofs.AccessLaws.{granted-facts}
 use Rattle.plan.specs.declared.Transfer.{Transfer}
@@ -22,14 +24,15 @@ use Rattle.unit_stride.specs.Tested.{all, testOf, pagesFrom, Tested, non
 module _ (active : ℕ → Bool) (rights : List ℕ) (memory : ℕ) (t : Transfer) (v n : ℕ) where
   pub finishes : (pages : ℕ) → ((j : ℕ) → j < n → testOf active rights memory t (v + j) ≡ Granted)
       → pagesFrom active rights memory t v n ≡ pages
-      → Tested active rights memory t v n (record { answer = Finished; element = 0; pages = pages })
+      → Tested active rights memory t v n (record { answer = Finished; element = 0; pages = pages; wanted = nothingWanted })
   finishes pages h e = rw (← e) (none-faults h)
 
-  pub faults : (k element pages : ℕ) (x : Answer) (f : Fault) → k < n → ((j : ℕ) → j < k → testOf active rights memory t (v + j) ≡ Granted)
-      → testOf active rights memory t (v + k) ≡ Faulted f → f .answer ≡ x → v + k ≡ element
+  pub faults : (k element pages : ℕ) (x : Answer) (w : Wanted) (f : Fault) → k < n
+      → ((j : ℕ) → j < k → testOf active rights memory t (v + j) ≡ Granted)
+      → testOf active rights memory t (v + k) ≡ Faulted f → f .answer ≡ x → f .place .wanted ≡ w → v + k ≡ element
       → pagesFrom active rights memory t v (k + flag (pageTested memory (elementAddress t (v + k) 0) (t .bytes))) ≡ pages
-      → Tested active rights memory t v n (record { answer = x; element = element; pages = pages })
-  faults k element pages x f l h g p q e = rw (← p, ← q, ← e) (first-faults k f l h g)
+      → Tested active rights memory t v n (record { answer = x; element = element; pages = pages; wanted = w })
+  faults k element pages x w f l h g p o q e = rw (← p, ← o, ← q, ← e) (first-faults k f l h g)
 
 -- an element that is active or not, by its test where it is
 module _ (active : Bool) (x r : AccessTest) where

@@ -16,9 +16,10 @@ use Rattle.layout.specs.Layout.{byteSize}
 use Rattle.layout.proofs.WidthLaws.{size-elim, size-pos}
 use Rattle.answer.specs.declared.Answer.{Answer}
 use Rattle.answer.specs.declared.Answer.the-variants.{Finished}
+use Rattle.access.specs.declared.Wanted.{Wanted}
 use Rattle.access.specs.declared.Fault.{Fault}
 use Rattle.access.specs.declared.AccessTest.the-variants.{Granted}
-use Rattle.access.specs.Access.{pageOf, needed, misaligned, denied}
+use Rattle.access.specs.Access.{pageOf, needed, nothingWanted, misaligned, denied}
 use Rattle.access.proofs.AccessLaws.{is-aligned, facts-granted, not-aligned, past-memory, no-right}
 use Rattle.plan.specs.declared.Transfer.{Transfer}
 use Rattle.machine.specs.Effect.{elementAddress}
@@ -103,11 +104,12 @@ module _ (rights : List ℕ) (memory : ℕ) (t : Transfer) (v n : ℕ) (g : Pack
   page i = pageOf (elementAddress t i 0)
 
   -- the fault of an element at an address
-  abbrev faulting : Answer → ℕ → Fault
-  faulting x a = record { answer = x; place = record { address = a } }
+  abbrev faulting : Answer → ℕ → Wanted → Fault
+  faulting x a w = record { answer = x; place = record { address = a; wanted = w } }
 
   -- nothing remains
-  pub nothing-remains : n ≡ 0 → Tested all rights memory t v n (record { answer = Finished; element = 0; pages = 0 })
+  pub nothing-remains : n ≡ 0
+      → Tested all rights memory t v n (record { answer = Finished; element = 0; pages = 0; wanted = nothingWanted })
   unfolding differentPages
   nothing-remains z = finishes all rights memory t v n 0 (λ j l. absurd (omega arith)) (rw z)
 
@@ -120,12 +122,13 @@ module _ (rights : List ℕ) (memory : ℕ) (t : Transfer) (v n : ℕ) (g : Pack
 
     pub at-misaligned : (x : Answer) (aligned : Bool) → (n ≡ 0 → ⊥) → aligned ≡ eqb (start % t .bytes) 0 → not aligned ≡ true
         → x ≡ misaligned (t .store)
-        → Tested all rights memory t v n (record { answer = x; element = v; pages = 0 })
+        → Tested all rights memory t v n (record { answer = x; element = v; pages = 0; wanted = nothingWanted })
     unfolding differentPages
     at-misaligned x aligned l e f p =
-        faults all rights memory t v n 0 v 0 x (faulting (misaligned (t .store)) start) (omega arith) (λ j m. absurd (omega arith))
+        faults all rights memory t v n 0 v 0 x nothingWanted (faulting (misaligned (t .store)) start nothingWanted) (omega arith)
+        (λ j m. absurd (omega arith))
         (rw first-address (sym (not-aligned rights memory (t .store) start (t .bytes) _ (misaligned (t .store)) aligned e f refl refl)))
-        (sym p) (add-zero v)
+        (sym p) refl (add-zero v)
         (rw (first-address, sym e ∙ not-true aligned f))
 
     pub begins : (aligned : Bool) → aligned ≡ eqb (start % t .bytes) 0 → not aligned ≡ false → Begins t v start
@@ -187,15 +190,16 @@ module _ (rights : List ℕ) (memory : ℕ) (t : Transfer) (v n : ℕ) (g : Pack
     counted (suc j) l = counted-next j l (counted j (omega arith))
 
     pub at-outside : (x : Answer) → 1 ≤ n → inside ≡ 0 → x ≡ denied (t .store)
-        → Tested all rights memory t v n (record { answer = x; element = v; pages = 0 })
+        → Tested all rights memory t v n (record { answer = x; element = v; pages = 0; wanted = nothingWanted })
     unfolding differentPages
     at-outside x l z p =
         let o : memory < at 0 + t .bytes = is-outside start 0 memory (t .bytes) (g .size) (omega (arith, inside-are)) in
         let e : elementAddress t (v + 0) 0 ≡ start = first-address start (h .begins) in
-        faults all rights memory t v n 0 v 0 x (faulting (denied (t .store)) start) (omega arith) (λ j m. absurd (omega arith))
+        faults all rights memory t v n 0 v 0 x nothingWanted (faulting (denied (t .store)) start nothingWanted) (omega arith)
+        (λ j m. absurd (omega arith))
         (rw e (sym (past-memory rights memory (t .store) start (t .bytes) (h .aligned) _ (denied (t .store)) (g .size)
         (omega (arith, size-pos (t .bytes) (g .size))) refl refl)))
-        (sym p) (add-zero v) (rw (e, untested-outside memory start (t .bytes) (h .aligned) (omega arith)))
+        (sym p) refl (add-zero v) (rw (e, untested-outside memory start (t .bytes) (h .aligned) (omega arith)))
 
     -- at least one element lies inside
     module _ (some : inside ≡ 0 → ⊥) where
@@ -239,15 +243,26 @@ module _ (rights : List ℕ) (memory : ℕ) (t : Transfer) (v n : ℕ) (g : Pack
         not-past-last : (j : ℕ) → j < inside → pageOf (at j) ≤ pageOf (at (inside - 1))
         not-past-last j l = let m : j * t .bytes ≤ (inside - 1) * t .bytes = mul-le-mul-right (t .bytes) (omega arith) in omega arith
 
+        -- of a page
+        abbrev wantedOf : ℕ → Wanted
+        wantedOf p = record { page = p; right = right }
+
         pub at-closed : (x : Answer) (d : ℕ) → closed ≤ pageOf (at (inside - 1)) → d ≡ 256 * closed - start → x ≡ denied (t .store)
-            → Tested all rights memory t v n (record { answer = x; element = v + d / t .bytes; pages = closed - start / 256 + 1 })
+            → Tested all rights memory t v n
+            (record {
+              answer = x;
+              element = v + d / t .bytes;
+              pages = closed - start / 256 + 1;
+              wanted = wantedOf closed;
+            })
         at-closed x d l e p =
-            faults all rights memory t v n k (v + d / t .bytes) (closed - start / 256 + 1) x (faulting (denied (t .store)) (at k))
+            faults all rights memory t v n k (v + d / t .bytes) (closed - start / 256 + 1) x (wantedOf closed)
+            (faulting (denied (t .store)) (at k) (wantedOf (at k / 256)))
             (omega (arith, m, inside-are))
             (λ j q. open-at j (omega (arith, m)) (before-page start j closed (t .bytes) (g .size) (h .aligned) q))
             (rw (there k m) (sym (no-right rights memory (t .store) (at k) (t .bytes) (multiple k)
             right (omega (arith, within k m, size-pos (t .bytes) (g .size))) r _ (denied (t .store)) (rw o (c .closed l)) refl refl)))
-            (sym p) (ap (λ (y : ℕ). v + y / t .bytes) (sym e))
+            (sym p) (ap wantedOf o) (ap (λ (y : ℕ). v + y / t .bytes) (sym e))
             (rw (there k m, page-tested memory (at k) (t .bytes) (multiple k) (within k m), add-one k)
             (counted k m .count ∙ rw o (omega (arith, c .least))))
           where
@@ -274,19 +289,30 @@ module _ (rights : List ℕ) (memory : ℕ) (t : Transfer) (v n : ℕ) (g : Pack
 
           pub at-end : (x : Answer) → inside < n → x ≡ denied (t .store)
               → Tested all rights memory t v n
-              (record { answer = x; element = v + inside; pages = pageOf (at (inside - 1)) - start / 256 + 1 })
+              (record {
+                answer = x;
+                element = v + inside;
+                pages = pageOf (at (inside - 1)) - start / 256 + 1;
+                wanted = nothingWanted;
+              })
           at-end x l p =
               let w : elementAddress t (v + inside) 0 ≡ at inside = here inside (omega arith) (omega (arith, last-within)) in
               let o : memory < at inside + t .bytes = is-outside start inside memory (t .bytes) (g .size) (omega (arith, inside-are)) in
-              faults all rights memory t v n inside (v + inside) _ x (faulting (denied (t .store)) (at inside)) l all-open
+              faults all rights memory t v n inside (v + inside) _ x nothingWanted
+              (faulting (denied (t .store)) (at inside) nothingWanted) l all-open
               (rw w (sym (past-memory rights memory (t .store) (at inside) (t .bytes) (multiple inside)
               _ (denied (t .store)) (g .size) (omega (arith, size-pos (t .bytes) (g .size))) refl refl)))
-              (sym p) refl
+              (sym p) refl refl
               (rw (w, untested-outside memory (at inside) (t .bytes) (multiple inside) o, add-zero) all-pages)
 
           pub at-clear : n ≤ inside
               → Tested all rights memory t v n
-              (record { answer = Finished; element = 0; pages = pageOf (at (inside - 1)) - start / 256 + 1 })
+              (record {
+                answer = Finished;
+                element = 0;
+                pages = pageOf (at (inside - 1)) - start / 256 + 1;
+                wanted = nothingWanted;
+              })
           at-clear l =
               let e : inside ≡ n = omega (arith, inside-are) in
               finishes all rights memory t v n _ (λ j m. all-open j (omega arith)) (rw (← e) all-pages)

@@ -12,7 +12,7 @@ use Rattle.layout.specs.Layout.{byteSize, Inside}
 use Rattle.access.specs.declared.Fault.{Fault}
 use Rattle.access.specs.declared.AccessTest.{AccessTest}
 use Rattle.access.specs.declared.AccessTest.the-variants.{Granted, Faulted}
-use Rattle.access.specs.Access.{pageOf, accessOf}
+use Rattle.access.specs.Access.{pageOf, nothingWanted, accessOf}
 use Rattle.plan.specs.declared.Transfer.{Transfer}
 use Rattle.machine.specs.Effect.{elementAddress}
 use Rattle.unit_stride.specs.declared.Checked.{Checked}
@@ -52,12 +52,13 @@ module _ (active : ℕ → Bool) (rights : List ℕ) (memory : ℕ) (t : Transfe
   -- none of the n elements from v up faults, or element v + k is the first that does
   pub data Tested (v n : ℕ) : Checked → Type 0 where
     none-faults : ((j : ℕ) → j < n → testOf (v + j) ≡ Granted)
-        → Tested v n (record { answer = Finished; element = 0; pages = pagesFrom v n })
+        → Tested v n (record { answer = Finished; element = 0; pages = pagesFrom v n; wanted = nothingWanted })
     first-faults : (k : ℕ) (f : Fault) → k < n → ((j : ℕ) → j < k → testOf (v + j) ≡ Granted) → testOf (v + k) ≡ Faulted f
         → Tested v n (record {
           answer = f .answer;
           element = v + k;
           pages = pagesFrom v (k + flag (pageTested memory (elementAddress t (v + k) 0) (t .bytes)));
+          wanted = f .place .wanted;
         })
 
 -- r is the first page from `first` to `last` that lacks the right, or the page after them

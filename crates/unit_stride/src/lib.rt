@@ -11,15 +11,17 @@ ghost use Rattle.machine.specs.Effect.{activeOf};
 ghost use Rattle.unit_stride.specs.Pages.{pageTested};
 ghost use Rattle.unit_stride.specs.Tested.{Packed, Begins, MaskInside, all, Tested, FirstClosed, talliedOf};
 use access::AccessTest;
+use access::Wanted;
 use answer::Answer;
 use control::Board;
 use plan::Transfer;
 
-// What is found: the answer, the element that would fault, and the number of pages tested.
+// What is found: the answer, the element that would fault, the number of pages tested, and what was wanted of which page.
 pub struct Checked {
     pub answer: Answer,
     pub element: u64,
     pub pages: u64,
+    pub wanted: Wanted,
 }
 
 // ---- unmasked: by pages
@@ -58,11 +60,13 @@ fn by_pages(
             answer: access::denied_answer(t.store),
             element: vstart,
             pages: 0,
+            wanted: Wanted::NOTHING,
         };
     }
     let first = start / 256;
     let last = (start + (inside - 1) * size) / 256;
-    let closed = first_closed(rights, access::right_needed(t.store), first, last);
+    let right = access::right_needed(t.store);
+    let closed = first_closed(rights, right, first, last);
     if closed <= last {
         // the first element on that page
         let element = vstart + control::less(256 * closed, start) / size;
@@ -70,6 +74,10 @@ fn by_pages(
             answer: access::denied_answer(t.store),
             element,
             pages: closed - first + 1,
+            wanted: Wanted {
+                page: closed,
+                right,
+            },
         };
     }
     let pages = last - first + 1;
@@ -78,12 +86,14 @@ fn by_pages(
             answer: access::denied_answer(t.store),
             element: vstart + inside,
             pages,
+            wanted: Wanted::NOTHING,
         };
     }
     Checked {
         answer: Answer::Finished,
         element: 0,
         pages,
+        wanted: Wanted::NOTHING,
     }
 }
 
@@ -97,6 +107,7 @@ fn unmasked(rights: &[u8], memory: usize, t: Transfer, vstart: u64, remaining: u
             answer: Answer::Finished,
             element: 0,
             pages: 0,
+            wanted: Wanted::NOTHING,
         };
     }
     let start = execute::address(t, vstart, 0);
@@ -105,6 +116,7 @@ fn unmasked(rights: &[u8], memory: usize, t: Transfer, vstart: u64, remaining: u
             answer: access::misaligned_answer(t.store),
             element: vstart,
             pages: 0,
+            wanted: Wanted::NOTHING,
         };
     }
     by_pages(rights, memory, t, vstart, remaining, start)
@@ -181,10 +193,13 @@ fn walked(
             AccessTest::Granted => k += 1,
             AccessTest::Faulted(fault) => {
                 let answer = fault.answer;
+                let place = fault.place;
+                let wanted = place.wanted;
                 return Checked {
                     answer,
                     element: i,
                     pages: tally.pages,
+                    wanted,
                 };
             }
         }
@@ -193,6 +208,7 @@ fn walked(
         answer: Answer::Finished,
         element: 0,
         pages: tally.pages,
+        wanted: Wanted::NOTHING,
     }
 }
 

@@ -1,11 +1,12 @@
 // Runs instruction vectors through the public calls. Standard input has records of lines: 'c' a case (word, allowance, the fields of the
 // control record, and the lengths of the register file, the scalars, memory and the rights), 'x' a scalar, 'v' bytes of a register, 'p' the
 // right of a range of pages, and then '.', upon which the turn is taken, or '?', upon which the access check is made. Of a turn it writes
-// the answer, the number passed, the fault address, the control record after, and every byte or scalar that has changed; of a check the
-// answer, the element and the number of pages.
+// the answer, the number passed, the fault address, the page and the right that were wanted, the control record after, and every byte or
+// scalar that has changed; of a check the answer, the element, the number of pages, and the page and the right.
 ghost use mathlib.Core.Path.{_≡_};
 ghost use Prim.Native.Nat.{_≤_};
 ghost use lib.ListN.{length};
+use access::Wanted;
 use control::Control;
 use machine::Turned;
 use unit_stride::Checked;
@@ -148,6 +149,7 @@ fn read_end() {
 fn print_turned(turned: Turned) {
     let answer = turned.answer;
     let place = turned.place;
+    let wanted = place.wanted;
     let control = turned.control;
     io::print_decimal(1, answer::number(answer));
     io::write_all(1, b" ");
@@ -155,7 +157,16 @@ fn print_turned(turned: Turned) {
     io::write_all(1, b" ");
     io::print_hex(1, place.address, 1);
     io::write_all(1, b" ");
+    print_wanted(wanted);
+    io::write_all(1, b" ");
     print_control(control);
+}
+
+// The page and the right that were wanted.
+fn print_wanted(wanted: Wanted) {
+    io::print_decimal(1, wanted.page);
+    io::write_all(1, b" ");
+    io::print_decimal(1, wanted.right as u64);
 }
 
 // The control record on standard output.
@@ -222,11 +233,14 @@ fn print_scalars(scalars: &[u64], before: &[u64]) {
 
 fn print_checked(checked: Checked) {
     let answer = checked.answer;
+    let wanted = checked.wanted;
     io::print_decimal(1, answer::number(answer));
     io::write_all(1, b" ");
     io::print_decimal(1, checked.element);
     io::write_all(1, b" ");
     io::print_decimal(1, checked.pages);
+    io::write_all(1, b" ");
+    print_wanted(wanted);
     io::write_all(1, b"\n");
 }
 

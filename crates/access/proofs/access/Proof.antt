@@ -1,4 +1,3 @@
-use mathlib.Core.Logic.{⊎-elim}
 use borrow.Author.Needs.{needs}
 use Rattle.layout.proofs.WidthLaws.{size-pos}
 use Rattle.access.proofs.AccessLaws.{is-aligned, last-fits, not-aligned, past-memory, no-right, granted}
@@ -16,8 +15,11 @@ access-spec =
     (λ c. search size-pos)
     (λ c. search (last-fits, is-aligned))
     (λ c κs. search needs)
+    (λ c κs. search needs)
+    (λ c. search (past-memory, is-aligned))
     (λ c. search needs)
+    (λ c κs. search needs)
     (λ c. search (granted, is-aligned, needs))
     (λ c κs. search needs)
     (λ c κs. search needs)
-    (λ c. ⊎-elim (λ w. search (no-right, is-aligned, needs)) (λ w. search (past-memory, is-aligned, needs)) (c .before .before .if2 .came)))
+    (λ c. search (no-right, is-aligned, needs)))

@@ -5,6 +5,7 @@ use Rattle.sheet.proofs.report_turn.Tie as tie
 
 pub report-turn-spec : {M : Type 1} → statement M
 report-turn-spec = tie.close (tie.spec
+    (λ c κs. search needs)
     (λ c. search needs)
     (λ c κs. search needs)
     (λ c. search needs)

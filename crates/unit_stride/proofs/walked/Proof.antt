@@ -37,7 +37,7 @@ walked-spec =
     (tested .test .ensures) (c .enum-told .given .1))
     (λ c. search needs)
     (λ c.
-    let tested = c .before .before .before in
+    let tested = c .before .before .before .before .before in
     let counted = tested .before in
     let reached = counted .before in
     let asked = reached .before in
@@ -45,5 +45,5 @@ walked-spec =
     let looped = placed .before in
     walking-fault _ _ _ _ _ _ (looped .before .before .before .before .pre .0) _ _ (looped .before .loop .inv) (looped .loop-test .taken)
     _ _ _ _ _ (asked .active .ensures) (placed .address .ensures) (reached .page-tested .ensures) (counted .tallied .ensures)
-    (tested .test .ensures) _ (c .before .fault .given .1))
+    (tested .test .ensures) _ (c .before .before .before .fault .given .1))
     (λ c. search walking-done))
