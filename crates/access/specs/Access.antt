@@ -9,6 +9,7 @@ use Rattle.answer.specs.declared.Answer.{Answer}
 use Rattle.answer.specs.declared.Answer.the-variants.{LoadMisaligned, LoadAccess, StoreMisaligned, StoreAccess}
 use Rattle.access.specs.declared.Wanted.{Wanted}
 use Rattle.access.specs.declared.FaultPlace.{FaultPlace}
+use Rattle.access.specs.declared.Fault.{Fault}
 use Rattle.access.specs.declared.AccessTest.{AccessTest}
 use Rattle.access.specs.declared.AccessTest.the-variants.{Granted, Faulted}
 
@@ -31,8 +32,11 @@ abbrev pub nothingWanted : Wanted
 nothingWanted = record { page = 256; right = 0 }
 
 -- "a fault address: the first byte of the faulting element, modulo 2^64, for 4 to 7"
+abbrev pub faultOf : Answer → ℕ → Wanted → Fault
+faultOf answer a wanted = record { answer = answer; place = record { address = a; wanted = wanted } }
+
 abbrev pub faultAt : Answer → ℕ → Wanted → AccessTest
-faultAt answer a wanted = Faulted (record { answer = answer; place = record { address = a; wanted = wanted } })
+faultAt answer a wanted = Faulted (faultOf answer a wanted)
 
 -- beside all other answers the address is 0
 abbrev pub nowhere : FaultPlace

@@ -4,21 +4,15 @@ use mathlib.Core.Path.{_≡_}
 use mathlib.Core.Bool.{Bool}
 use mathlib.Core.List.{List}
 use lib.ListN.{getD}
-use Rattle.answer.specs.declared.Answer.{Answer}
-use Rattle.access.specs.declared.Wanted.{Wanted}
 use Rattle.access.specs.declared.Fault.{Fault}
 use Rattle.access.specs.declared.AccessTest.the-variants.{Granted, Faulted}
-use Rattle.access.specs.Access.{pageOf, needed, wantedAt, nothingWanted, misaligned, denied, accessOf, fieldsAccess}
-
--- the fault of an element at an address
-abbrev pub faultOf : Answer → ℕ → Wanted → Fault
-faultOf answer a wanted = record { answer = answer; place = record { address = a; wanted = wanted } }
+use Rattle.access.specs.Access.{pageOf, needed, wantedAt, nothingWanted, faultOf, misaligned, denied, accessOf, fieldsAccess}
 
 -- what is the case of the element of n bytes that a fault is about, by the pages' rights and the number of bytes of memory
 pub data Reason (rights : List ℕ) (memory : ℕ) (store : Bool) (n : ℕ) : Fault → Type 0 where
   -- its address is no multiple of its size: no page is asked
   not-aligned : (a : ℕ) → (a % n ≡ 0 → ⊥) → Reason rights memory store n (faultOf (misaligned store) a nothingWanted)
-  -- it reaches past the end of memory: no page is asked, "also where the page is closed as well"
+  -- it reaches past the end of memory: no page is asked, even if that of its first byte is closed
   past-memory : (a : ℕ) → a % n ≡ 0 → memory < a + n → Reason rights memory store n (faultOf (denied store) a nothingWanted)
   -- it is aligned and inside memory, and its page has less than the right that is wanted
   page-closed : (a : ℕ) → a % n ≡ 0 → a + n ≤ memory → getD rights (pageOf a) 0 < needed store

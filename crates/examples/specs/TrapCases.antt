@@ -7,8 +7,7 @@ use Rattle.answer.specs.declared.Answer.the-variants.{Finished, LoadMisaligned,
 use Rattle.control.specs.Board.{base}
 use Rattle.control.specs.Control.{reset, withVtype, withVstart}
 use Rattle.access.specs.declared.Fault.{Fault}
-use Rattle.access.specs.Access.{nothingWanted, nowhere}
-use Rattle.access.specs.Reason.{faultOf}
+use Rattle.access.specs.Access.{nothingWanted, faultOf, nowhere}
 use Rattle.machine.specs.State.{State}
 use Rattle.machine.specs.Machine.{turnOf}
 use Rattle.machine.specs.FaultPages.{faultIn}

@@ -17,9 +17,8 @@ use Rattle.layout.proofs.WidthLaws.{size-elim, size-pos}
 use Rattle.answer.specs.declared.Answer.{Answer}
 use Rattle.answer.specs.declared.Answer.the-variants.{Finished}
 use Rattle.access.specs.declared.Wanted.{Wanted}
-use Rattle.access.specs.declared.Fault.{Fault}
 use Rattle.access.specs.declared.AccessTest.the-variants.{Granted}
-use Rattle.access.specs.Access.{pageOf, needed, nothingWanted, misaligned, denied}
+use Rattle.access.specs.Access.{pageOf, needed, nothingWanted, faultOf, misaligned, denied}
 use Rattle.access.proofs.AccessLaws.{is-aligned, facts-granted, not-aligned, past-memory, no-right}
 use Rattle.plan.specs.declared.Transfer.{Transfer}
 use Rattle.machine.specs.Effect.{elementAddress}
@@ -103,10 +102,6 @@ module _ (rights : List ℕ) (memory : ℕ) (t : Transfer) (v n : ℕ) (g : Pack
   abbrev page : ℕ → ℕ
   page i = pageOf (elementAddress t i 0)
 
-  -- the fault of an element at an address
-  abbrev faulting : Answer → ℕ → Wanted → Fault
-  faulting x a w = record { answer = x; place = record { address = a; wanted = w } }
-
   -- nothing remains
   pub nothing-remains : n ≡ 0
       → Tested all rights memory t v n (record { answer = Finished; element = 0; pages = 0; wanted = nothingWanted })
@@ -125,7 +120,7 @@ module _ (rights : List ℕ) (memory : ℕ) (t : Transfer) (v n : ℕ) (g : Pack
         → Tested all rights memory t v n (record { answer = x; element = v; pages = 0; wanted = nothingWanted })
     unfolding differentPages
     at-misaligned x aligned l e f p =
-        faults all rights memory t v n 0 v 0 x nothingWanted (faulting (misaligned (t .store)) start nothingWanted) (omega arith)
+        faults all rights memory t v n 0 v 0 x nothingWanted (faultOf (misaligned (t .store)) start nothingWanted) (omega arith)
         (λ j m. absurd (omega arith))
         (rw first-address (sym (not-aligned rights memory (t .store) start (t .bytes) _ (misaligned (t .store)) aligned e f refl refl)))
         (sym p) refl (add-zero v)
@@ -195,7 +190,7 @@ module _ (rights : List ℕ) (memory : ℕ) (t : Transfer) (v n : ℕ) (g : Pack
     at-outside x l z p =
         let o : memory < at 0 + t .bytes = is-outside start 0 memory (t .bytes) (g .size) (omega (arith, inside-are)) in
         let e : elementAddress t (v + 0) 0 ≡ start = first-address start (h .begins) in
-        faults all rights memory t v n 0 v 0 x nothingWanted (faulting (denied (t .store)) start nothingWanted) (omega arith)
+        faults all rights memory t v n 0 v 0 x nothingWanted (faultOf (denied (t .store)) start nothingWanted) (omega arith)
         (λ j m. absurd (omega arith))
         (rw e (sym (past-memory rights memory (t .store) start (t .bytes) (h .aligned) _ (denied (t .store)) (g .size)
         (omega (arith, size-pos (t .bytes) (g .size))) refl refl)))
@@ -257,7 +252,7 @@ module _ (rights : List ℕ) (memory : ℕ) (t : Transfer) (v n : ℕ) (g : Pack
             })
         at-closed x d l e p =
             faults all rights memory t v n k (v + d / t .bytes) (closed - start / 256 + 1) x (wantedOf closed)
-            (faulting (denied (t .store)) (at k) (wantedOf (at k / 256)))
+            (faultOf (denied (t .store)) (at k) (wantedOf (at k / 256)))
             (omega (arith, m, inside-are))
             (λ j q. open-at j (omega (arith, m)) (before-page start j closed (t .bytes) (g .size) (h .aligned) q))
             (rw (there k m) (sym (no-right rights memory (t .store) (at k) (t .bytes) (multiple k)
@@ -299,7 +294,7 @@ module _ (rights : List ℕ) (memory : ℕ) (t : Transfer) (v n : ℕ) (g : Pack
               let w : elementAddress t (v + inside) 0 ≡ at inside = here inside (omega arith) (omega (arith, last-within)) in
               let o : memory < at inside + t .bytes = is-outside start inside memory (t .bytes) (g .size) (omega (arith, inside-are)) in
               faults all rights memory t v n inside (v + inside) _ x nothingWanted
-              (faulting (denied (t .store)) (at inside) nothingWanted) l all-open
+              (faultOf (denied (t .store)) (at inside) nothingWanted) l all-open
               (rw w (sym (past-memory rights memory (t .store) (at inside) (t .bytes) (multiple inside)
               _ (denied (t .store)) (g .size) (omega (arith, size-pos (t .bytes) (g .size))) refl refl)))
               (sym p) refl refl
