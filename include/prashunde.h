@@ -12,7 +12,8 @@
  *   control     6 numbers: vtype, vl, vstart, vxrm, vxsat, vs. vs is the status field VS of mstatus: 0 Off, 1 Initial, 2 Clean, 3 Dirty
  *
  * WHAT THE CALLER OWES. Every pointer is valid for its length, aligned for its type, and not NULL (not even beside a length of 0). Parts
- * that are written overlap no other part of the same call. All else is tested: a wrong length or a wrong value is answered and changes nothing.
+ * that are written overlap no other part of the same call. All else is tested: a wrong length or a wrong value is answered and changes
+ * nothing.
  */
 #ifndef PRASHUNDE_H
 #define PRASHUNDE_H

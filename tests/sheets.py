@@ -4,9 +4,9 @@
     tests/sheets.py crates/sheets_main DIR..     writes stdin and stdout
     tests/sheets.py --model SHEET..              prints what the model below makes of each sheet
 
-stdin has each NAME.sheet of the folders and the sheets of `damaged`, stdout what each must print (NAME.out, or what the model gives) and the
-two lines that the program writes after it. The model reads a sheet line by line and runs a few instructions (`Machine.plan`), written from the
-standard on Python's integers. Where it knows every word of a sheet, it must give what NAME.out says.
+stdin has each NAME.sheet of the folders and the sheets of `damaged`, stdout what each must print (NAME.out, or what the model gives) and
+the two lines that the program writes after it. The model reads a sheet line by line and runs a few instructions (`Machine.plan`), written
+from the standard on Python's integers. Where it knows every word of a sheet, it must give what NAME.out says.
 """
 import glob
 import re

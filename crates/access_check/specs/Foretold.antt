@@ -1,5 +1,5 @@
--- The access check in a teacher's words (document 02, A2 and A9): what it says beforehand of the turn, as a statement on every word and state,
--- on a board b.
+-- The access check in a teacher's words (document 02, A2 and A9): what it says beforehand of the turn, as a statement on every word and
+-- state, on a board b.
 use Prim.Native.Nat.{ℕ, _-_, _^_, _≤_}
 use mathlib.Core.Path.{_≡_}
 use mathlib.Core.Bool.{true, false}
