@@ -1,6 +1,6 @@
 -- The access test by its outcomes; the loop over the fields of a segment.
 use mathlib.Core.Path.{_≡_, refl, sym, ap, _∙_}
-use mathlib.Core.Bool.{Bool, true, false, not, cond}
+use mathlib.Core.Bool.{Bool, true, false, not}
 use mathlib.Core.List.{List}
 use Prim.Native.Nat.{ℕ, zero, suc, _+_, _-_, _*_, _/_, _%_, _^_, _≤_, _<_}
 use native.Mathlib.Numerals.{add-one}
@@ -11,7 +11,8 @@ use lib.Bits.{bitAnd, and-mask}
 use lib.Dec.{T, leb, eqb}
 use mir.Syntax.{w64}
 use mir.Val.{Fits}
-use borrow.Author.Tests.{eq-eqb, eqb-true, le-leb, lt-leb, leb-true, not-false}
+use borrow.Author.Tests.{eq-eqb, eqb-true, eqb-false, le-leb, lt-leb, leb-true, leb-false, not-true, not-false}
+use Rattle.laws.proofs.Chain.{either}
 use Rattle.layout.specs.Layout.{byteSize}
 use Rattle.layout.proofs.WidthLaws.{size-elim, size-pos}
 use Rattle.answer.specs.declared.Answer.{Answer}
@@ -53,26 +54,27 @@ module _ (rights : List ℕ) (memory : ℕ) (store : Bool) (a n : ℕ) where
         le-leb (needed store) (getD rights (pageOf a) 0) (g .right),
       )
 
-  pub granted-facts : accessOf rights memory store a n ≡ Granted → Grantable rights memory store a n
+  -- what holds of each outcome that the test can have holds of its outcome
+  pub access-cases : (P : AccessTest → Type 0) → ((a % n ≡ 0 → ⊥) → P (faultAt (misaligned store) a nothingWanted))
+      → (a % n ≡ 0 → memory < a + n → P (faultAt (denied store) a nothingWanted))
+      → (a % n ≡ 0 → a + n ≤ memory → getD rights (pageOf a) 0 < needed store → P (faultAt (denied store) a (wantedAt store a)))
+      → (Grantable rights memory store a n → P Granted)
+      → P (accessOf rights memory store a n)
   unfolding accessOf
-  granted-facts h =
-      go (eqb (a % n) 0) (leb (a + n) memory) (leb (needed store) (getD rights (pageOf a) 0)) refl refl refl h
-    where
-      go : (aligned inside right : Bool) → eqb (a % n) 0 ≡ aligned → leb (a + n) memory ≡ inside
-          → leb (needed store) (getD rights (pageOf a) 0) ≡ right
-          → cond (not aligned) (faultAt (misaligned store) a nothingWanted)
-          (cond (not inside) (faultAt (denied store) a nothingWanted)
-          (cond right Granted (faultAt (denied store) a (wantedAt store a))))
-          ≡ Granted
-          → Grantable rights memory store a n
-      go false inside right p q r h = never _ h
-      go true false right p q r h = never _ h
-      go true true false p q r h = never _ h
-      go true true true p q r h = record {
-        aligned = eqb-true (a % n) 0 p;
-        inside = leb-true (a + n) memory q;
-        right = leb-true (needed store) (getD rights (pageOf a) 0) r;
-      }
+  access-cases P if-misaligned if-past if-closed if-granted =
+      either P (not (eqb (a % n) 0)) _ _ (λ t. if-misaligned (eqb-false (a % n) 0 (not-true _ t)))
+      (λ t.
+      let e : a % n ≡ 0 = eqb-true (a % n) 0 (not-false _ t) in
+      either P (not (leb (a + n) memory)) _ _ (λ u. if-past e (leb-false (a + n) memory (not-true _ u)))
+      (λ u.
+      let i : a + n ≤ memory = leb-true (a + n) memory (not-false _ u) in
+      either P (leb (needed store) (getD rights (pageOf a) 0)) _ _
+      (λ v. if-granted (record { aligned = e; inside = i; right = leb-true (needed store) (getD rights (pageOf a) 0) v }))
+      (λ v. if-closed e i (leb-false (needed store) (getD rights (pageOf a) 0) v))))
+
+  pub granted-facts : accessOf rights memory store a n ≡ Granted → Grantable rights memory store a n
+  granted-facts = access-cases (λ v. v ≡ Granted → Grantable rights memory store a n)
+      (λ e. never _) (λ e o. never _) (λ e i r. never _) (λ g h. g)
 
   -- ---- the test by its outcomes
 

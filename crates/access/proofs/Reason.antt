@@ -1,19 +1,16 @@
 -- Each fault has a reason.
-use Prim.Native.Nat.{ℕ, zero, suc, _+_, _%_, _≤_, _<_}
-use mathlib.Core.Path.{_≡_, refl, subst}
-use mathlib.Core.Bool.{Bool, true, false, not, cond}
+use Prim.Native.Nat.{ℕ, zero, suc, _≤_, _<_}
+use mathlib.Core.Path.{_≡_, subst}
+use mathlib.Core.Bool.{Bool}
 use mathlib.Core.List.{List}
 use native.Mathlib.Omega.{arith}
 use lib.ListN.{getD}
-use lib.Dec.{leb, eqb}
-use borrow.Author.Tests.{eqb-true, eqb-false, leb-true, leb-false}
 use Rattle.access.specs.declared.Fault.{Fault}
 use Rattle.access.specs.declared.AccessTest.{AccessTest}
 use Rattle.access.specs.declared.AccessTest.the-variants.{Granted, Faulted}
-use Rattle.access.specs.Access.{pageOf, needed, wantedAt, nothingWanted, faultAt, misaligned, denied, accessOf, fieldAddress, orNext}
-use Rattle.access.specs.Access.{fieldsAccess}
+use Rattle.access.specs.Access.{accessOf, fieldAddress, orNext, fieldsAccess}
 use Rattle.access.specs.Reason.{Reason, not-aligned, past-memory, page-closed, Reasons}
-use Rattle.access.proofs.AccessLaws.{facts-granted}
+use Rattle.access.proofs.AccessLaws.{facts-granted, access-cases}
 
 module _ (rights : List ℕ) (memory : ℕ) (store : Bool) (n : ℕ) where
   -- an outcome of the test: where it is a fault, there is a reason
@@ -22,20 +19,7 @@ module _ (rights : List ℕ) (memory : ℕ) (store : Bool) (n : ℕ) where
   Explained (Faulted f) = Reason rights memory store n f
 
   of-element : (a : ℕ) → Explained (accessOf rights memory store a n)
-  unfolding accessOf
-  of-element a = go (eqb (a % n) 0) (leb (a + n) memory) (leb (needed store) (getD rights (pageOf a) 0)) refl refl refl
-    where
-      go : (aligned inside right : Bool) → eqb (a % n) 0 ≡ aligned → leb (a + n) memory ≡ inside
-          → leb (needed store) (getD rights (pageOf a) 0) ≡ right
-          → Explained
-          (cond (not aligned) (faultAt (misaligned store) a nothingWanted)
-          (cond (not inside) (faultAt (denied store) a nothingWanted)
-          (cond right Granted (faultAt (denied store) a (wantedAt store a)))))
-      go false inside right p q r = not-aligned a (eqb-false (a % n) 0 p)
-      go true false right p q r = past-memory a (eqb-true (a % n) 0 p) (leb-false (a + n) memory q)
-      go true true false p q r =
-          page-closed a (eqb-true (a % n) 0 p) (leb-true (a + n) memory q) (leb-false (needed store) (getD rights (pageOf a) 0) r)
-      go true true true p q r = tt
+  of-element a = access-cases rights memory store a n Explained (not-aligned a) (past-memory a) (page-closed a) (λ g. tt)
 
   of-next : (v w : AccessTest) → Explained v → Explained w → Explained (orNext v w)
   of-next Granted w g h = h

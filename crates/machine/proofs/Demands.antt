@@ -1,5 +1,5 @@
 -- Demands 1 and 3 of the customer, and the law of the number passed, hold of the definition of a turn.
-use Prim.Native.Nat.{ℕ, zero, suc, _+_, _-_, _^_, _≤_}
+use Prim.Native.Nat.{ℕ, _+_, _-_, _^_, _≤_}
 use mathlib.Core.Path.{_≡_, refl, sym, ap, _∙_, subst}
 use mathlib.Core.Logic.{_⊎_, inl, inr}
 use mathlib.Core.Bool.{Bool, true, false, not, _&&_}
@@ -9,7 +9,6 @@ use native.Mathlib.Omega.{arith}
 use Rattle.laws.proofs.Apart.{both-left, both-right}
 use Rattle.laws.proofs.Chain.{either}
 use lib.Dec.{T}
-use lib.ListN.{length}
 use Rattle.answer.specs.declared.Answer.{Answer}
 use Rattle.answer.specs.declared.Answer.the-variants.{Finished, Illegal, NoGroup}
 use Rattle.answer.specs.declared.Verdict.{Verdict}
@@ -32,61 +31,44 @@ use Rattle.decode.specs.declared.Instruction.{Instruction}
 use Rattle.decode.specs.declared.Instruction.the-variants as I
 use Rattle.decode.specs.Word.{decodeOf}
 use Rattle.decode.proofs.Fields.{fits}
-use Rattle.access.specs.declared.FaultPlace.{FaultPlace}
 use Rattle.access.specs.declared.Fault.{Fault}
-use Rattle.group.specs.Group.{nfields}
-use Rattle.access.specs.declared.AccessTest.{AccessTest}
-use Rattle.access.specs.declared.AccessTest.the-variants.{Granted, Faulted}
-use Rattle.access.specs.Access.{nowhere, accessOf, fieldAddress, orNext, fieldsAccess}
+use Rattle.access.specs.Access.{nowhere}
 use Rattle.refusal.specs.Refusal.{refusalOf}
 use Rattle.refusal.proofs.RefusalLaws.{accepted-facts}
-use Rattle.plan.specs.declared.Action.{Action}
 use Rattle.plan.specs.declared.Action.the-variants as A
-use Rattle.plan.specs.declared.Elementwise.{Elementwise}
 use Rattle.plan.specs.declared.OneTurn.{OneTurn}
 use Rattle.plan.specs.declared.OneTurn.the-variants as O
 use Rattle.plan.specs.declared.Plan.{Plan}
 use Rattle.plan.specs.declared.Plan.the-variants as P
 use Rattle.plan.specs.Plan.{shapedOf, byMode, planOf}
 use Rattle.legality.specs.Legal.{legalOf}
-use Rattle.turn_theory.specs.Turn.{Effect, inactive, fault, write, finished, paused, trapped, rejected, Semantics, Point, TurnEnd, Turn}
+use Rattle.turn_theory.specs.Turn.{finished, paused, trapped, rejected, Semantics, Point, TurnEnd, Turn}
 use Rattle.turn_theory.specs.Turn.{turn, turns, Opening, NoneFinishes, finalRights, uncutRun}
 use Rattle.turn_theory.specs.Claims.{changedPoint, changedEnd, Lawful}
 use Rattle.turn_theory.proofs.Laws.{turn-rejected, turn-cases, turn-keeps, unfinished-keeps, uncut, monotone}
 use Rattle.turn_theory.proofs.Changes.{passes-by}
 use Rattle.machine.specs.State.{State, Outcome, withRights, Core, coreOf, stateOf, withControl}
-use Rattle.machine.specs.Effect.{Write, activeOf, toRegisters, toMemory, putOf, ifGranted, actingOf, effectOf}
+use Rattle.machine.specs.Effect.{Write, toRegisters, toMemory, putOf}
 use Rattle.machine.specs.OneTurn.{typeFrom, avlFrom, settingResult, maskResult, oneTurnResult}
-use Rattle.machine.specs.Machine.{endOf, effectAt, resultAt, refusalAt, orIllegal, rejectionAt, Opened, semanticsOf, answerOf}
+use Rattle.machine.specs.Machine.{endOf, resultAt, refusalAt, orIllegal, rejectionAt, Opened, semanticsOf, answerOf}
 use Rattle.machine.specs.Machine.{vsAfter, ranOf, outcomeOf, planTurn, planAt, turnOf}
 use Rattle.machine.specs.Demands.{isTrap, changesNothing, untouched, Demand1, Demand3, Counts, Next, turnsOf, lastRights, Between}
 use Rattle.machine.specs.Demands.{Proceeds}
 use Rattle.machine.proofs.PlanFacts.{plan-sound}
 use Rattle.machine.proofs.EffectLaws.{all-keep}
+use Rattle.machine.proofs.FaultReasons.{trapOnly, fault-traps}
 use Rattle.machine.proofs.Lawful.{opened-refl, lawful}
 use Rattle.machine.proofs.Settled.{settled, status-unseen, marked-settled}
 
--- ---- a fault's answer is a trap, and a rejection's answer one that changes nothing
+-- ---- a rejection's answer changes nothing
 
--- the answers of faults, and of refusals: no answer is both
-abbrev trapOnly : Answer → Bool
-trapOnly a = isTrap a && not (changesNothing a)
-
+-- the answers of refusals: none of them is a trap
 abbrev refusalOnly : Answer → Bool
 refusalOnly a = changesNothing a && not (isTrap a)
 
 data Refuses (P : Answer → Bool) : Verdict → Type 0 where
   accepts : Refuses P Accepted
   refuses : {a : Answer} → P a ≡ true → Refuses P (Refused a)
-
-data Checks (P : Answer → Bool) : AccessTest → Type 0 where
-  grants : Checks P Granted
-  faulted : {a : Answer} {q : FaultPlace} → P a ≡ true → Checks P (Faulted (record { answer = a; place = q }))
-
-access-traps : (rights : List ℕ) (memory : ℕ) (store : Bool) (a n : ℕ) → Checks trapOnly (accessOf rights memory store a n)
-unfolding accessOf
-access-traps rights memory store a n =
-    search (grants, faulted, either (Checks trapOnly), either (λ (a : Answer). trapOnly a ≡ true)) depth 6
 
 board-refuses : (b : Board) (registers scalars memory : ℕ) (rights : List ℕ) (c : Control)
     → Refuses refusalOnly (refusalOf b registers scalars memory rights c)
@@ -106,41 +88,6 @@ unfolding rejectionAt
 rejection-rejects b p rights s v =
     rejecting-else _ _ (board-refuses b _ _ _ rights _)
     (either Rejecting (legalOf b (withVstart (s .control) v) p) none (some Illegal) (λ t. tt) (λ t. refl))
-
-abbrev Trapping : Effect Fault (List Write) → Type 0
-Trapping inactive = Unit {0}
-Trapping (fault x) = trapOnly (x .answer) ≡ true
-Trapping (write l) = Unit {0}
-
-trapping-check : (v : AccessTest) (l : List Write) → Checks trapOnly v → Trapping (ifGranted v (write l))
-trapping-check Granted l h = tt
-trapping-check (Faulted x) l (faulted h) = h
-
--- of fields, the first that faults
-next-checks : (v w : AccessTest) → Checks trapOnly v → Checks trapOnly w → Checks trapOnly (orNext v w)
-next-checks Granted w h k = k
-next-checks (Faulted x) w h k = h
-
-fields-trap : (rights : List ℕ) (memory : ℕ) (store : Bool) (a n k others : ℕ)
-    → Checks trapOnly (fieldsAccess rights memory store a n k others)
-unfolding fieldsAccess
-fields-trap rights memory store a n k zero = grants
-fields-trap rights memory store a n k (suc others) =
-    next-checks _ _ (access-traps rights memory store (fieldAddress a n k) n) (fields-trap rights memory store a n (suc k) others)
-
-acting-traps : (b : Board) (rights : List ℕ) (s : Core) (e : Elementwise) (i : ℕ) (x : Action) → Trapping (actingOf b rights s e i x)
-unfolding actingOf
-acting-traps b rights s e i (A.Compute k) = tt
-acting-traps b rights s e i (A.Transfer t) =
-    trapping-check _ _ (fields-trap rights (length (s .memory)) (t .store) _ (t .bytes) 0 (nfields (e .dest)))
-
-effect-traps : (b : Board) (p : Plan) (rights : List ℕ) (s : Core) (k : ℕ) → Trapping (effectAt b p rights s k)
-unfolding effectOf
-effect-traps b P.Illegal rights s k = tt
-effect-traps b (P.OneTurn t) rights s k = tt
-effect-traps b (P.Elements e) rights s k =
-    either Trapping (activeOf (b .vlenb) (s .registers) (e .masked) k) (actingOf b rights s e k (e .action)) inactive
-    (λ t. acting-traps b rights s e k (e .action)) (λ t. tt)
 
 -- ---- the outcome of a turn
 
@@ -174,7 +121,7 @@ module _ (b : Board) (p : Plan) where
       → P (turn J t q)
   answer-cases t q P if-rejected if-trapped if-paused if-finished = turn-cases J t q P (record {
     on-rejected = λ a e. if-rejected a (subst Rejecting e (rejection-rejects b p (t .rights) (q .state) (q .vstart)));
-    on-trapped = λ x k h l f e. if-trapped x k _ (subst Trapping e (effect-traps b p (t .rights) (q .state) (q .vstart + k)));
+    on-trapped = λ x k h l f e. if-trapped x k _ (fault-traps b p (t .rights) (q .state) (q .vstart + k) x e);
     on-paused = λ k h l e f. rw e (if-paused _);
     on-finished = λ h l. if-finished _;
   })

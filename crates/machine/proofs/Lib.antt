@@ -3,6 +3,7 @@ pub mod PlanFacts
 pub mod EffectLaws
 pub mod Lawful
 pub mod Settled
+pub mod FaultReasons
 pub mod Demands
 pub mod Theorems
 pub mod TwoEews
