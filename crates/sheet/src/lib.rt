@@ -62,7 +62,8 @@ fn report_turn(
     control: Control,
 ) -> usize
     requires { ⌜ at ≤ 2 ^ 24 ⌝ }
-    ensures { λ r. ⌜ Wrote (now (out .entry)) at (report word answer wanted control) (now (out .exit)) r × (r ≤ at + reportBound) ⌝ }
+    ensures { λ r. ⌜
+        Wrote (now (out .entry)) at (report word answer wanted control) (now (out .exit)) r × (r ≤ at + reportBound) ⌝ }
 {
     let number = answer::number(answer);
     let a = text::hex_line(out, at, b"word=", 8, word as u64);

@@ -1,3 +1,4 @@
+use native.Mathlib.Omega.{arith}
 use borrow.Author.Needs.{needs}
 use Rattle.layout.proofs.WidthLaws.{size-pos}
 use Rattle.access.proofs.AccessLaws.{is-aligned, last-fits, not-aligned, past-memory, no-right, granted}
@@ -16,7 +17,11 @@ access-spec =
     (λ c. search (last-fits, is-aligned))
     (λ c κs. search needs)
     (λ c κs. search needs)
-    (λ c. search (past-memory, is-aligned))
+    (λ c.
+    let past = c .before .before in
+    let tested = past .before .before in
+    past-memory _ _ _ _ _ (is-aligned _ _ _ (tested .aligned .ensures) (past .before .if1 .left)) _ _ (tested .before .before .pre .1 .1)
+    (omega (arith, past .if2 .taken)) (c .before .denied-answer .ensures) (c .fault-at2 .ensures))
     (λ c. search needs)
     (λ c κs. search needs)
     (λ c. search (granted, is-aligned, needs))
