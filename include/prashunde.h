@@ -76,8 +76,8 @@ uint64_t prashunde_turn(uint32_t word, uint32_t allowance,
  *   pages     gets the number of pages tested: the different pages of the active elements before the faulting one, and of that one unless
  *             it is misaligned or past memory; of all active elements that remain where none would fault. At most 2. Beside 2 and 32 to
  *             36, 0
- *   page, right   get what they would get of the turn: the page that lacks the right, and the right that is wanted; 256 and 0 where no
- *             page is closed to the access
+ *   page, right   get what the turn would store there (answers 4 to 7): the page that lacks the right, and the right that is wanted, or
+ *             256 and 0 where that element is misaligned or past the end of memory. Beside all other answers 256 and 0
  * Returns 0 where the turn would finish, also where nothing remains; 4 to 7 where it would trap; 2 and 32 to 36 as the turn. Never 1.
  */
 uint64_t prashunde_access_check(uint32_t word,

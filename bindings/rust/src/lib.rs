@@ -138,7 +138,8 @@ impl Control {
     }
 }
 
-/// A page, and the right that was wanted of it: 1 by a load, 2 by a store. Page 256 and right 0 where no page lacked a right.
+/// A page that lacks a right, and the right that was wanted of it: 1 by a load, 2 by a store. Page 256 and right 0 where no page was asked:
+/// the element is misaligned or past the end of memory, or nothing trapped.
 #[derive(Clone, Copy, Debug, PartialEq, Eq)]
 pub struct Wanted {
     pub page: u64,

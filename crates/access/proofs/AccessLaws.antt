@@ -78,25 +78,25 @@ module _ (rights : List ℕ) (memory : ℕ) (store : Bool) (a n : ℕ) where
 
   -- ---- the test by its outcomes
 
-  pub not-aligned : (r : AccessTest) (x : Answer) (t : Bool) → t ≡ eqb (a % n) 0 → not t ≡ true → x ≡ misaligned store
+  pub faults-misaligned : (r : AccessTest) (x : Answer) (t : Bool) → t ≡ eqb (a % n) 0 → not t ≡ true → x ≡ misaligned store
       → r ≡ faultAt x a nothingWanted
       → r ≡ accessOf rights memory store a n
   unfolding accessOf
-  not-aligned r x t e f p q = rw (← e, f, ← p) q
+  faults-misaligned r x t e f p q = rw (← e, f, ← p) q
 
   module _ (e : a % n ≡ 0) where
-    pub past-memory : (r : AccessTest) (x : Answer) → T (byteSize n) → memory ≤ a + (n - 1) → x ≡ denied store
+    pub faults-past-memory : (r : AccessTest) (x : Answer) → T (byteSize n) → memory ≤ a + (n - 1) → x ≡ denied store
         → r ≡ faultAt x a nothingWanted
         → r ≡ accessOf rights memory store a n
     unfolding accessOf
-    past-memory r x t h p q = rw (eq-eqb (a % n) 0 e, lt-leb (a + n) memory (omega (arith, size-pos n t)), ← p) q
+    faults-past-memory r x t h p q = rw (eq-eqb (a % n) 0 e, lt-leb (a + n) memory (omega (arith, size-pos n t)), ← p) q
 
     module _ (k : ℕ) (h : a + (n - 1) < memory) (g : k ≡ needed store) where
-      pub no-right : (r : AccessTest) (x : Answer) → getD rights (a / 256) 0 < k → x ≡ denied store
+      pub faults-closed : (r : AccessTest) (x : Answer) → getD rights (a / 256) 0 < k → x ≡ denied store
           → r ≡ faultAt x a (record { page = a / 256; right = k })
           → r ≡ accessOf rights memory store a n
       unfolding accessOf
-      no-right r x l p q =
+      faults-closed r x l p q =
           rw (eq-eqb (a % n) 0 e, le-leb (a + n) memory (omega arith), ← g, lt-leb k (getD rights (a / 256) 0) l, ← p) q
 
       pub granted : k ≤ getD rights (a / 256) 0 → Granted ≡ accessOf rights memory store a n

@@ -37,9 +37,9 @@ four p q r w = both p (three q r w)
 
 -- ---- a turn
 
-pub no-trap : (o : List ℕ) (a answer : ℕ) (w : Wanted) → (leb 4 answer && leb answer 7) ≡ false → Wrote o a (reportWanted answer w) o a
+pub no-lines : (o : List ℕ) (a answer : ℕ) (w : Wanted) → (leb 4 answer && leb answer 7) ≡ false → Wrote o a (reportWanted answer w) o a
 unfolding reportWanted
-no-trap o a answer w h = rw h (nothing o a)
+no-lines o a answer w h = rw h (nothing o a)
 
 pub wanted-wrote : {o o1 o2 : List ℕ} {a a1 a2 : ℕ} (answer : ℕ) (w : Wanted) → (leb 4 answer && leb answer 7) ≡ true
     → Wrote o a (line (ascii "page=") (decimal (w .page))) o1 a1 → Wrote o1 a1 (line (ascii "right=") (decimal (w .right))) o2 a2

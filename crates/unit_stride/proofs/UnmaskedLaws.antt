@@ -19,7 +19,7 @@ use Rattle.answer.specs.declared.Answer.the-variants.{Finished}
 use Rattle.access.specs.declared.Wanted.{Wanted}
 use Rattle.access.specs.declared.AccessTest.the-variants.{Granted}
 use Rattle.access.specs.Access.{pageOf, needed, nothingWanted, faultOf, misaligned, denied}
-use Rattle.access.proofs.AccessLaws.{is-aligned, facts-granted, not-aligned, past-memory, no-right}
+use Rattle.access.proofs.AccessLaws.{is-aligned, facts-granted, faults-misaligned, faults-past-memory, faults-closed}
 use Rattle.plan.specs.declared.Transfer.{Transfer}
 use Rattle.machine.specs.Effect.{elementAddress}
 use Rattle.unit_stride.specs.Pages.{differentPages}
@@ -122,7 +122,8 @@ module _ (rights : List ℕ) (memory : ℕ) (t : Transfer) (v n : ℕ) (g : Pack
     at-misaligned x aligned l e f p =
         faults all rights memory t v n 0 v 0 x nothingWanted (faultOf (misaligned (t .store)) start nothingWanted) (omega arith)
         (λ j m. absurd (omega arith))
-        (rw first-address (sym (not-aligned rights memory (t .store) start (t .bytes) _ (misaligned (t .store)) aligned e f refl refl)))
+        (rw first-address
+        (sym (faults-misaligned rights memory (t .store) start (t .bytes) _ (misaligned (t .store)) aligned e f refl refl)))
         (sym p) refl (add-zero v)
         (rw (first-address, sym e ∙ not-true aligned f))
 
@@ -192,7 +193,7 @@ module _ (rights : List ℕ) (memory : ℕ) (t : Transfer) (v n : ℕ) (g : Pack
         let e : elementAddress t (v + 0) 0 ≡ start = first-address start (h .begins) in
         faults all rights memory t v n 0 v 0 x nothingWanted (faultOf (denied (t .store)) start nothingWanted) (omega arith)
         (λ j m. absurd (omega arith))
-        (rw e (sym (past-memory rights memory (t .store) start (t .bytes) (h .aligned) _ (denied (t .store)) (g .size)
+        (rw e (sym (faults-past-memory rights memory (t .store) start (t .bytes) (h .aligned) _ (denied (t .store)) (g .size)
         (omega (arith, size-pos (t .bytes) (g .size))) refl refl)))
         (sym p) refl (add-zero v) (rw (e, untested-outside memory start (t .bytes) (h .aligned) (omega arith)))
 
@@ -238,7 +239,7 @@ module _ (rights : List ℕ) (memory : ℕ) (t : Transfer) (v n : ℕ) (g : Pack
         not-past-last : (j : ℕ) → j < inside → pageOf (at j) ≤ pageOf (at (inside - 1))
         not-past-last j l = let m : j * t .bytes ≤ (inside - 1) * t .bytes = mul-le-mul-right (t .bytes) (omega arith) in omega arith
 
-        -- of a page
+        -- what is wanted of a page
         abbrev wantedOf : ℕ → Wanted
         wantedOf p = record { page = p; right = right }
 
@@ -255,7 +256,7 @@ module _ (rights : List ℕ) (memory : ℕ) (t : Transfer) (v n : ℕ) (g : Pack
             (faultOf (denied (t .store)) (at k) (wantedOf (at k / 256)))
             (omega (arith, m, inside-are))
             (λ j q. open-at j (omega (arith, m)) (before-page start j closed (t .bytes) (g .size) (h .aligned) q))
-            (rw (there k m) (sym (no-right rights memory (t .store) (at k) (t .bytes) (multiple k)
+            (rw (there k m) (sym (faults-closed rights memory (t .store) (at k) (t .bytes) (multiple k)
             right (omega (arith, within k m, size-pos (t .bytes) (g .size))) r _ (denied (t .store)) (rw o (c .closed l)) refl refl)))
             (sym p) (ap wantedOf o) (ap (λ (y : ℕ). v + y / t .bytes) (sym e))
             (rw (there k m, page-tested memory (at k) (t .bytes) (multiple k) (within k m), add-one k)
@@ -295,7 +296,7 @@ module _ (rights : List ℕ) (memory : ℕ) (t : Transfer) (v n : ℕ) (g : Pack
               let o : memory < at inside + t .bytes = is-outside start inside memory (t .bytes) (g .size) (omega (arith, inside-are)) in
               faults all rights memory t v n inside (v + inside) _ x nothingWanted
               (faultOf (denied (t .store)) (at inside) nothingWanted) l all-open
-              (rw w (sym (past-memory rights memory (t .store) (at inside) (t .bytes) (multiple inside)
+              (rw w (sym (faults-past-memory rights memory (t .store) (at inside) (t .bytes) (multiple inside)
               _ (denied (t .store)) (g .size) (omega (arith, size-pos (t .bytes) (g .size))) refl refl)))
               (sym p) refl refl
               (rw (w, untested-outside memory (at inside) (t .bytes) (multiple inside) o, add-zero) all-pages)

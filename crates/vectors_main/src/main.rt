@@ -3,7 +3,6 @@
 // right of a range of pages, and then '.', upon which the turn is taken, or '?', upon which the access check is made. Of a turn it writes
 // the answer, the number passed, the fault address, the page and the right that were wanted, the control record after, and every byte or
 // scalar that has changed; of a check the answer, the element, the number of pages, and the page and the right.
-ghost use mathlib.Core.Path.{_≡_};
 ghost use Prim.Native.Nat.{_≤_};
 ghost use lib.ListN.{length};
 use access::Wanted;

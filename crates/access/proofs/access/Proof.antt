@@ -1,7 +1,7 @@
 use native.Mathlib.Omega.{arith}
 use borrow.Author.Needs.{needs}
 use Rattle.layout.proofs.WidthLaws.{size-pos}
-use Rattle.access.proofs.AccessLaws.{is-aligned, last-fits, not-aligned, past-memory, no-right, granted}
+use Rattle.access.proofs.AccessLaws.{is-aligned, last-fits, faults-misaligned, faults-past-memory, faults-closed, granted}
 use Rattle.access.proofs.access.Statement.{statement}
 use Rattle.access.proofs.access.Tie as tie
 
@@ -12,7 +12,7 @@ access-spec =
     (λ c κs. search needs)
     (λ c κs. search needs)
     (λ c κs. search needs)
-    (λ c. search not-aligned)
+    (λ c. search faults-misaligned)
     (λ c. search size-pos)
     (λ c. search (last-fits, is-aligned))
     (λ c κs. search needs)
@@ -20,11 +20,11 @@ access-spec =
     (λ c.
     let past = c .before .before in
     let tested = past .before .before in
-    past-memory _ _ _ _ _ (is-aligned _ _ _ (tested .aligned .ensures) (past .before .if1 .left)) _ _ (tested .before .before .pre .1 .1)
-    (omega (arith, past .if2 .taken)) (c .before .denied-answer .ensures) (c .fault-at2 .ensures))
+    faults-past-memory _ _ _ _ _ (is-aligned _ _ _ (tested .aligned .ensures) (past .before .if1 .left)) _ _
+    (tested .before .before .pre .1 .1) (omega (arith, past .if2 .taken)) (c .before .denied-answer .ensures) (c .fault-at2 .ensures))
     (λ c. search needs)
     (λ c κs. search needs)
     (λ c. search (granted, is-aligned, needs))
     (λ c κs. search needs)
     (λ c κs. search needs)
-    (λ c. search (no-right, is-aligned, needs)))
+    (λ c. search (faults-closed, is-aligned, needs)))

@@ -1,5 +1,5 @@
 use borrow.Author.Needs.{needs}
-use Rattle.sheet.proofs.Printing.{no-trap, wanted-wrote}
+use Rattle.sheet.proofs.Printing.{no-lines, wanted-wrote}
 use Rattle.sheet.proofs.report_wanted.Statement.{statement}
 use Rattle.sheet.proofs.report_wanted.Tie as tie
 
@@ -12,4 +12,4 @@ report-wanted-spec = tie.close (tie.spec
     (λ c κs. search needs)
     (λ c. search needs)
     (λ c. (search wanted-wrote, search needs))
-    (λ c. (search no-trap, search needs)))
+    (λ c. (search no-lines, search needs)))
