@@ -52,19 +52,26 @@ const fn row(name: &'static str, word: u32, sew: u64, lmul: u64, vl: u64) -> Row
     }
 }
 
-// A word that passes no element: of one turn, illegal or refused.
+// A word of one turn: it passes no element.
+const fn one_turn(name: &'static str, word: u32, sew: u64, lmul: u64, vl: u64) -> Row {
+    Row {
+        passed: 0,
+        ..row(name, word, sew, lmul, vl)
+    }
+}
+
+// Such a word, or one that is illegal or refused, at e8 m8.
 const fn one(name: &'static str, word: u32, answer: u64, registers: usize) -> Row {
     Row {
         answer,
         registers,
-        passed: 0,
-        ..row(name, word, 8, 8, 128)
+        ..one_turn(name, word, 8, 8, 128)
     }
 }
 
 pub const ILLEGAL: Row = one("no word of ours (answer 2)", 0, 2, 512);
 
-pub const ROWS: [Row; 28] = [
+pub const ROWS: [Row; 30] = [
     row("vadd.vv e8 m8", op(0x00, 1, 16, 24, OPIVV, 8), 8, 8, 128),
     row("vadd.vv e8 m8, masked", op(0x00, 0, 16, 24, OPIVV, 8), 8, 8, 128),
     row("vadd.vv e32 m8", op(0x00, 1, 16, 24, OPIVV, 8), 32, 8, 32),
@@ -88,6 +95,8 @@ pub const ROWS: [Row; 28] = [
     row("vlseg3e8.v m2", access(0x07, 2, 0, 0, 0, 8), 8, 2, 32),
     row("vsseg3e8.v m2", access(0x27, 2, 0, 0, 0, 8), 8, 2, 32),
     row("vmand.mm, vl 128", op(0x19, 1, 2, 3, OPMVV, 1), 8, 8, 128),
+    one_turn("vredsum.vs e8 m8", op(0x00, 1, 16, 24, OPMVV, 8), 8, 8, 128),
+    one_turn("vwredsum.vs e16 m8", op(0x31, 1, 16, 24, OPIVV, 8), 16, 8, 64),
     one("vcpop.m, vl 128", op(0x10, 1, 2, 16, OPMVV, 12), 0, 512),
     one("vmsbf.m, vl 128", op(0x14, 1, 2, 1, OPMVV, 1), 0, 512),
     // vsetvli x12, x0, e8 m8: vl becomes 128

@@ -156,6 +156,7 @@ module _ (b : Board) (x : List ℕ) (c : Control) (w : Valid b) (t : Possible b 
   plan-unit I.Illegal f h = absurd (subst T (sym h) tt)
   plan-unit (I.Setting s) f h = absurd (subst T (sym h) tt)
   plan-unit (I.Mask m) f h = absurd (subst T (sym h) tt)
+  plan-unit (I.Reduction a) f h = absurd (subst T (sym h) tt)
   plan-unit (I.Arithmetic a) f h = absurd (subst T (sym h) tt)
   plan-unit (I.Memory a) f h = mode-unit a f (a .mode) (f .mode) h
 

@@ -40,6 +40,7 @@ abbrev pub isUnitStride : Instruction → Bool
 isUnitStride I.Illegal = false
 isUnitStride (I.Arithmetic a) = false
 isUnitStride (I.Mask m) = false
+isUnitStride (I.Reduction a) = false
 isUnitStride (I.Setting t) = false
 isUnitStride (I.Memory a) = unitStrideMode (a .mode) (a .nf)
 

@@ -52,6 +52,7 @@ fn is_unit_stride(instruction: Instruction) -> bool
         Instruction::Illegal => false,
         Instruction::Arithmetic(_) => false,
         Instruction::Mask(_) => false,
+        Instruction::Reduction(_) => false,
         Instruction::Setting(_) => false,
         Instruction::Memory(a) => {
             let mode = a.mode;

@@ -18,7 +18,8 @@ use Rattle.decode.specs.declared.Mode.{Mode}
 use Rattle.decode.specs.declared.Instruction.{Instruction}
 use Rattle.decode.specs.declared.Instruction.the-variants as I
 use Rattle.decode.specs.declared.Entry.{Entry}
-use Rattle.decode.specs.declared.Entry.the-variants.{Reserved, Operation, OnMask, MergeOrMove, Vxunary0, Vwxunary0, Vmunary0, Setting}
+use Rattle.decode.specs.declared.Entry.the-variants.{Reserved, Operation, OnMask, Reduces, MergeOrMove, Vxunary0, Vwxunary0, Vmunary0}
+use Rattle.decode.specs.declared.Entry.the-variants.{Setting}
 use Rattle.decode.specs.Word.{funct3, funct6, rs2, vm, masked, vmFits, sourceOf, resolvedOf, namedOf, arithmeticOf}
 use Rattle.decode.specs.Word.{avlOf, settingOf, widthOf, access, maskOf, wholeCount, wholeOf, unitOf, memoryOf, decodeOf}
 use Rattle.decode.specs.Listing.{Row, listing, find, keep, inColumn, entryOf}
@@ -73,6 +74,7 @@ abbrev takesNumber : Entry → Bool
 takesNumber Reserved = true
 takesNumber (Operation op) = isSingle (shapeOf op .vs1)
 takesNumber (OnMask op) = true
+takesNumber (Reduces op) = true
 takesNumber MergeOrMove = true
 takesNumber Vxunary0 = false
 takesNumber Vwxunary0 = false
@@ -109,6 +111,7 @@ unfolding resolvedOf
 resolved Reserved w h = h
 resolved (Operation op) w h = h
 resolved (OnMask op) w h = h
+resolved (Reduces op) w h = h
 resolved MergeOrMove w h =
     let P : Entry → Type 0 = λ e. takesNumber e ≡ true in
     either P (masked w) _ _ (λ t. refl) (λ t. either P (eqb (rs2 w) 0) (Operation Vmv) Reserved (λ t. refl) (λ t. refl))
@@ -135,6 +138,7 @@ named-fits (Operation op) w f =
     })
     (λ t. tt)
 named-fits (OnMask op) w f = search five-bits
+named-fits (Reduces op) w f = search five-bits
 named-fits MergeOrMove w f = tt
 named-fits Vxunary0 w f = tt
 named-fits Vwxunary0 w f = tt

@@ -17,6 +17,7 @@ use Rattle.decode.specs.declared.Mode.{Mode}
 use Rattle.decode.specs.declared.Mode.the-variants as M
 use Rattle.decode.specs.declared.Arithmetic.{Arithmetic}
 use Rattle.decode.specs.declared.MaskInstruction.{MaskInstruction}
+use Rattle.decode.specs.declared.ReductionInstruction.{ReductionInstruction}
 use Rattle.decode.specs.declared.Setting.{Setting}
 use Rattle.decode.specs.declared.Access.{Access}
 use Rattle.decode.specs.declared.Instruction.{Instruction}
@@ -42,6 +43,11 @@ pub record ArithmeticFits (a : Arithmetic) : Type 0 where
 pub record MaskFits (m : MaskInstruction) : Type 0 where
   pub rd : m .rd < 32
   pub vs2 : m .vs2 < 32
+
+pub record ReductionFits (r : ReductionInstruction) : Type 0 where
+  pub vd : r .vd < 32
+  pub vs2 : r .vs2 < 32
+  pub vs1 : r .vs1 < 32
 
 abbrev pub AvlFits : AvlSource → Type 0
 AvlFits (Register r) = r < 32
@@ -75,5 +81,6 @@ abbrev pub Fits : Instruction → Type 0
 Fits I.Illegal = Unit {0}
 Fits (I.Arithmetic a) = ArithmeticFits a
 Fits (I.Mask m) = MaskFits m
+Fits (I.Reduction r) = ReductionFits r
 Fits (I.Setting s) = SettingFits s
 Fits (I.Memory a) = AccessFits a

@@ -13,8 +13,11 @@ use Rattle.operation.specs.declared.Op.the-variants.{Vsaddu, Vsadd, Vssubu, Vss
 use Rattle.operation.specs.declared.Op.the-variants.{Vssrl, Vssra, Vnclipu, Vnclip}
 use Rattle.operation.specs.declared.Op.the-variants.{Vmand, Vmnand, Vmandn, Vmxor, Vmor, Vmnor, Vmorn, Vmxnor}
 use Rattle.decode.specs.declared.MaskOp.the-variants.{Vcpop, Vfirst, Vmsbf, Vmsof, Vmsif}
+use Rattle.decode.specs.declared.ReductionOp.the-variants.{Vredsum, Vredand, Vredor, Vredxor, Vredminu, Vredmin, Vredmaxu, Vredmax}
+use Rattle.decode.specs.declared.ReductionOp.the-variants.{Vwredsumu, Vwredsum}
 use Rattle.decode.specs.declared.Entry.{Entry}
-use Rattle.decode.specs.declared.Entry.the-variants.{Reserved, Operation, OnMask, MergeOrMove, Vxunary0, Vwxunary0, Vmunary0, Setting}
+use Rattle.decode.specs.declared.Entry.the-variants.{Reserved, Operation, OnMask, Reduces, MergeOrMove, Vxunary0, Vwxunary0, Vmunary0}
+use Rattle.decode.specs.declared.Entry.the-variants.{Setting}
 
 -- the columns that an operation is listed in, by funct3; its number, funct6; what the word names
 pub record Row : Type 0 where
@@ -31,6 +34,9 @@ vxi = 0b000 ∷ 0b100 ∷ 0b011 ∷ []
 
 abbrev pub vx : List ℕ
 vx = 0b000 ∷ 0b100 ∷ []
+
+abbrev pub vv : List ℕ
+vv = 0b000 ∷ []
 
 abbrev pub xi : List ℕ
 xi = 0b100 ∷ 0b011 ∷ []
@@ -83,6 +89,16 @@ listing =
     row vxi 0b101101 (Operation Vnsra) ∷
     row vxi 0b101110 (Operation Vnclipu) ∷
     row vxi 0b101111 (Operation Vnclip) ∷
+    row vv 0b110000 (Reduces Vwredsumu) ∷
+    row vv 0b110001 (Reduces Vwredsum) ∷
+    row mv 0b000000 (Reduces Vredsum) ∷
+    row mv 0b000001 (Reduces Vredand) ∷
+    row mv 0b000010 (Reduces Vredor) ∷
+    row mv 0b000011 (Reduces Vredxor) ∷
+    row mv 0b000100 (Reduces Vredminu) ∷
+    row mv 0b000101 (Reduces Vredmin) ∷
+    row mv 0b000110 (Reduces Vredmaxu) ∷
+    row mv 0b000111 (Reduces Vredmax) ∷
     row mvx 0b001000 (Operation Vaaddu) ∷
     row mvx 0b001001 (Operation Vaadd) ∷
     row mvx 0b001010 (Operation Vasubu) ∷

@@ -18,7 +18,8 @@ use Rattle.decode.specs.declared.Mode.the-variants.{UnitStride, Strided,
 use Rattle.decode.specs.declared.Instruction.{Instruction}
 use Rattle.decode.specs.declared.Instruction.the-variants as I
 use Rattle.decode.specs.declared.Entry.{Entry}
-use Rattle.decode.specs.declared.Entry.the-variants.{Reserved, Operation, OnMask, MergeOrMove, Vxunary0, Vwxunary0, Vmunary0, Setting}
+use Rattle.decode.specs.declared.Entry.the-variants.{Reserved, Operation, OnMask, Reduces, MergeOrMove, Vxunary0, Vwxunary0, Vmunary0}
+use Rattle.decode.specs.declared.Entry.the-variants.{Setting}
 use Rattle.decode.specs.Listing.{vxunary0, vwxunary0, vmunary0, find, entryOf}
 
 -- ---- the fields of a word
@@ -83,6 +84,7 @@ unfoldable pub resolvedOf : Entry → ℕ → Entry
 resolvedOf Reserved w = Reserved
 resolvedOf (Operation op) w = Operation op
 resolvedOf (OnMask op) w = OnMask op
+resolvedOf (Reduces op) w = Reduces op
 resolvedOf MergeOrMove w = cond (masked w) (Operation Vmerge) (cond (eqb (rs2 w) 0) (Operation Vmv) Reserved)
 resolvedOf Vxunary0 w = find vxunary0 (rs1 w)
 resolvedOf Vwxunary0 w = find vwxunary0 (rs1 w)
@@ -119,6 +121,7 @@ settingOf w =
 abbrev pub namedOf : Entry → ℕ → Instruction
 namedOf (Operation op) w = operationOf op w
 namedOf (OnMask op) w = I.Mask (record { op = op; rd = rd w; vs2 = rs2 w; masked = masked w })
+namedOf (Reduces op) w = I.Reduction (record { op = op; vd = rd w; vs2 = rs2 w; vs1 = rs1 w; masked = masked w })
 namedOf Setting w = settingOf w
 namedOf Reserved w = I.Illegal
 namedOf MergeOrMove w = I.Illegal

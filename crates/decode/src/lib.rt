@@ -42,6 +42,28 @@ pub struct MaskInstruction {
     pub masked: bool,
 }
 
+// Reductions (sections 15.1 and 15.2).
+pub enum ReductionOp {
+    Vredsum,
+    Vredand,
+    Vredor,
+    Vredxor,
+    Vredminu,
+    Vredmin,
+    Vredmaxu,
+    Vredmax,
+    Vwredsumu,
+    Vwredsum,
+}
+
+pub struct ReductionInstruction {
+    pub op: ReductionOp,
+    pub vd: usize,
+    pub vs2: usize,
+    pub vs1: usize,
+    pub masked: bool,
+}
+
 // Where AVL comes from (section 7.2).
 pub enum AvlSource {
     Register(usize),
@@ -90,6 +112,7 @@ pub enum Instruction {
     Illegal,
     Arithmetic(Arithmetic),
     Mask(MaskInstruction),
+    Reduction(ReductionInstruction),
     Setting(Setting),
     Memory(Access),
 }
@@ -99,6 +122,7 @@ pub enum Entry {
     Reserved,
     Operation(Op),
     OnMask(MaskOp),
+    Reduces(ReductionOp),
     // vmerge, or vmv with vm 1
     MergeOrMove,
     // further tables, by the vs1 field
@@ -236,6 +260,14 @@ fn opmvv(funct6: u32) -> Entry
     ensures { λ r. ⌜ r ≡ entryOf 0b010 funct6 ⌝ }
 {
     match funct6 {
+        0b000000 => Entry::Reduces(ReductionOp::Vredsum),
+        0b000001 => Entry::Reduces(ReductionOp::Vredand),
+        0b000010 => Entry::Reduces(ReductionOp::Vredor),
+        0b000011 => Entry::Reduces(ReductionOp::Vredxor),
+        0b000100 => Entry::Reduces(ReductionOp::Vredminu),
+        0b000101 => Entry::Reduces(ReductionOp::Vredmin),
+        0b000110 => Entry::Reduces(ReductionOp::Vredmaxu),
+        0b000111 => Entry::Reduces(ReductionOp::Vredmax),
         0b001000 => Entry::Operation(Op::Vaaddu),
         0b001001 => Entry::Operation(Op::Vaadd),
         0b001010 => Entry::Operation(Op::Vasubu),
@@ -281,13 +313,15 @@ fn opmvv(funct6: u32) -> Entry
     }
 }
 
-// OPIVV and OPIVI are OPIVX less some rows.
+// OPIVV and OPIVI are OPIVX less some rows; OPIVV has two of its own.
 fn opivv(funct6: u32) -> Entry
     ensures { λ r. ⌜ r ≡ entryOf 0b000 funct6 ⌝ }
 {
     match funct6 {
         0b000011 => Entry::Reserved,
         0b011110..=0b011111 => Entry::Reserved,
+        0b110000 => Entry::Reduces(ReductionOp::Vwredsumu),
+        0b110001 => Entry::Reduces(ReductionOp::Vwredsum),
         _ => opivx(funct6),
     }
 }
@@ -311,6 +345,7 @@ fn opmvx(funct6: u32) -> Entry
     ensures { λ r. ⌜ r ≡ entryOf 0b110 funct6 ⌝ }
 {
     match funct6 {
+        0b000000..=0b000111 => Entry::Reserved,
         0b010000 => Entry::Reserved,
         0b010010 => Entry::Reserved,
         0b010100 => Entry::Reserved,
@@ -398,6 +433,7 @@ fn resolved(entry: Entry, word: u32) -> Entry
         Entry::Reserved => entry,
         Entry::Operation(_) => entry,
         Entry::OnMask(_) => entry,
+        Entry::Reduces(_) => entry,
         Entry::Setting => entry,
     }
 }
@@ -511,6 +547,13 @@ fn named(entry: Entry, word: u32) -> Instruction
             op,
             rd: rd(word) as usize,
             vs2: rs2(word) as usize,
+            masked: masked(word),
+        }),
+        Entry::Reduces(op) => Instruction::Reduction(ReductionInstruction {
+            op,
+            vd: rd(word) as usize,
+            vs2: rs2(word) as usize,
+            vs1: rs1(word) as usize,
             masked: masked(word),
         }),
         Entry::Setting => setting_of(word),

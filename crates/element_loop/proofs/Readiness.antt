@@ -41,13 +41,13 @@ use Rattle.plan.specs.declared.Transfer.{Transfer}
 use Rattle.plan.specs.declared.Elementwise.{Elementwise}
 use Rattle.plan.specs.declared.Plan.{Plan}
 use Rattle.plan.specs.declared.Plan.the-variants as P
-use Rattle.plan.specs.Plan.{groupsAt, readAt, secondOf, shapedOf, computingOf, movingOf, byMode, planOf}
+use Rattle.plan.specs.Plan.{groupsAt, registerAt, readAt, secondOf, shapedOf, computingOf, movingOf, byMode, planOf}
 use Rattle.legality.specs.Legal.{readFits, writesRegisters, operandsFit, isThere}
 use Rattle.plan.specs.Range.{ReadInRange, InRange, PlanFits}
 use Rattle.plan.proofs.AccessLaws.{one-of, eew-low}
 use Rattle.plan.proofs.RangeLaws.{plan-range, vs1-constant}
 use Rattle.machine.specs.Effect.{valueOf}
-use Rattle.machine.proofs.Geometry.{placed-extent}
+use Rattle.machine.proofs.Geometry.{placed-extent, inside, bit-inside}
 use Rattle.machine.proofs.PlanFacts.{Operand, constant, bit, element, OfV0, unused, used, Typed, typed-extent, legal-at, computing-typed}
 use Rattle.machine.proofs.PlanFacts.{mode-end, unit-typed, strided-typed, indexed-typed, eew-width}
 use Rattle.execute.specs.Step.{FieldsInside, Ready, ReadInside, ActionFits}
@@ -55,22 +55,11 @@ use Rattle.execute.proofs.StepLaws.{first-inside}
 
 -- ---- where elements lie
 
--- in a group that ends at or below v31, and whose registers hold all elements below `end`
-inside : (vlenb end : ℕ) (g : Group) (k : ℕ) → T (elementWidth (g .eew)) → end * g .eew ≤ registersOf g * (8 * vlenb)
-    → g .reg + registersOf g ≤ 32
-    → k < end → Inside (32 * vlenb) vlenb (g .reg) (g .eew) k
-inside vlenb end g k t m u l =
-    let here : (k + 1) * g .eew ≤ end * g .eew = mul-le-mul-right (g .eew) (omega arith) in
-    record { width = t; within = omega (arith, here, m, mul-le-mul-right (8 * vlenb) u) }
-
 -- of each field
 each-inside : (vlenb end : ℕ) (g : Group) (k : ℕ) → T (elementWidth (g .eew)) → end * g .eew ≤ registersOf g * (8 * vlenb)
     → g .reg + spanOf g ≤ 32
     → k < end → FieldsInside (32 * vlenb) vlenb g k
 each-inside vlenb end g k t m u l f h = inside vlenb end (fieldGroup g f) k t m (omega (arith, fields-before g f h)) l
-
-bit-inside : (vlenb reg k : ℕ) → reg < 32 → k < 8 * vlenb → Inside (32 * vlenb) vlenb reg 1 k
-bit-inside vlenb reg k u l = inside vlenb (8 * vlenb) (maskGroup reg) k tt (omega arith) (omega arith) l
 
 v0-inside : (vlenb : ℕ) (r : Read) (k : ℕ) → OfV0 r → k < 8 * vlenb → ReadInside (32 * vlenb) vlenb r k
 unfolding ReadInside
@@ -149,7 +138,7 @@ module _ (b : Board) (x : List ℕ) (c : Control) (a : Access) (w : Valid b) (t 
   mode-ready (M.Strided r) n u h l o = typed-ready b (c .vtype) _ k w (strided-typed b x c a w t f r (omega arith)) h u l
   mode-ready (M.Indexed r) n u h l o = typed-ready b (c .vtype) _ k w (indexed-typed b x c a w t f r (omega arith)) h u l
   mode-ready M.MaskBytes n u h l o =
-      let g : Group = record { reg = a .vd; eew = 8; emul8 = 8; nf = 0 } in
+      let g : Group = registerAt 8 (a .vd) in
       alone-ready b a _ g _ _ k tt (omega (arith, t .vl)) (omega (arith, f .vd)) l o
   mode-ready (M.Whole r) n u h l o = whole-ready r n h l o
 
@@ -237,6 +226,7 @@ module _ (b : Board) (x : List ℕ) (c : Control) (w : Valid b) (t : Possible b 
   every-plan I.Illegal f u = tt
   every-plan (I.Setting s) f u = tt
   every-plan (I.Mask m) f u = tt
+  every-plan (I.Reduction a) f u = tt
   every-plan (I.Arithmetic a) f u = computing-prepared a f u
   every-plan (I.Memory a) f u = moving-prepared a f u
 

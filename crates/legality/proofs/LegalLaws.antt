@@ -20,13 +20,14 @@ use Rattle.plan.specs.declared.Action.{Action}
 use Rattle.plan.specs.declared.Action.the-variants as A
 use Rattle.plan.specs.declared.Compute.{Compute}
 use Rattle.plan.specs.declared.Elementwise.{Elementwise}
+use Rattle.plan.specs.declared.Reduction.{Reduction}
 use Rattle.plan.specs.declared.Sources.{Sources}
 use Rattle.plan.specs.declared.OneTurn.{OneTurn}
 use Rattle.plan.specs.declared.OneTurn.the-variants as O
 use Rattle.plan.specs.declared.Plan.{Plan}
 use Rattle.plan.specs.declared.Plan.the-variants as P
 use Rattle.legality.specs.Legal.{startable, operandsFit, isThere, elementsLegal}
-use Rattle.legality.specs.Legal.{writesMask, maskApart, oneTurnLegal, sourcesFit, kindLegal, legalOf, checkedOf}
+use Rattle.legality.specs.Legal.{writesMask, maskApart, reductionPlaced, oneTurnLegal, sourcesFit, kindLegal, legalOf, checkedOf}
 use Rattle.plan.specs.Sources.{sourcesOf}
 use Rattle.plan.specs.Range.{ReadInRange, listed}
 
@@ -59,6 +60,11 @@ module _ (b : Board) (c : Control) where
       → (start && (eqb (c .vstart) 0 && apart)) ≡ oneTurnLegal b c t
   unfolding oneTurnLegal
   mask-legal t m start apart e p q = case (oneTurnLegal b c) t (O.Mask m) (start && (eqb (c .vstart) 0 && apart)) e (rw (p, q))
+
+  pub reduction-legal : (t : OneTurn) (r : Reduction) (start fit : Bool) → t ≡ O.Reduction r → start ≡ startable b c
+      → fit ≡ reductionPlaced (b .elen) r → (start && (eqb (c .vstart) 0 && fit)) ≡ oneTurnLegal b c t
+  unfolding oneTurnLegal
+  reduction-legal t r start fit e p q = case (oneTurnLegal b c) t (O.Reduction r) (start && (eqb (c .vstart) 0 && fit)) e (rw (p, q))
 
   -- ---- every plan
 

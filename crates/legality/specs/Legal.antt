@@ -1,4 +1,4 @@
--- Whether a plan is legal (sections 4.2, 6.2, 6.3, 8.8 and 16; document 01, 'Words, groups and elements'; document 02, A1, A5 and A8).
+-- Whether a plan is legal (sections 4.2, 6.2, 6.3, 8.8, 15 and 16; document 01, 'Words, groups and elements'; document 02, A1, A4, A5 and A8).
 use Prim.Native.Nat.{ℕ, _*_, _/_}
 use mathlib.Core.Bool.{Bool, true, false, not, _&&_, _||_, cond}
 use mathlib.Core.List.{List, [], _∷_}
@@ -18,6 +18,7 @@ use Rattle.plan.specs.declared.Read.the-variants as R
 use Rattle.plan.specs.declared.Action.{Action}
 use Rattle.plan.specs.declared.Action.the-variants as A
 use Rattle.plan.specs.declared.Elementwise.{Elementwise}
+use Rattle.plan.specs.declared.Reduction.{Reduction}
 use Rattle.plan.specs.declared.OneTurn.{OneTurn}
 use Rattle.plan.specs.declared.OneTurn.the-variants as O
 use Rattle.plan.specs.declared.Plan.{Plan}
@@ -81,10 +82,16 @@ keepsV0 m = not (m .masked) || not (eqb (m .rd) 0)
 abbrev pub maskApart : MaskInstruction → Bool
 maskApart m = not (writesMask (m .op)) || (not (eqb (m .rd) (m .vs2)) && keepsV0 m)
 
--- those on masks need vstart 0 (sections 16.2 to 16.6)
+-- the accumulator of a reduction, SEW or 2 * SEW bits wide, is at most ELEN wide; vs2 is a group as any other. vd and vs1 are single
+-- registers of any number, and "the destination may overlap any source, and v0 under a mask" (A4)
+abbrev pub reductionPlaced : ℕ → Reduction → Bool
+reductionPlaced elen r = leb (r .vd .eew) elen && placedOf elen (r .vs2)
+
+-- those on masks (sections 16.2 to 16.6) and the reductions (section 15) need vstart 0
 unfoldable pub oneTurnLegal : Board → Control → OneTurn → Bool
 oneTurnLegal b c (O.Setting t) = true
 oneTurnLegal b c (O.Mask m) = startable b c && (eqb (c .vstart) 0 && maskApart m)
+oneTurnLegal b c (O.Reduction r) = startable b c && (eqb (c .vstart) 0 && reductionPlaced (b .elen) r)
 
 -- ---- every plan
 

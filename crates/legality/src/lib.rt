@@ -8,9 +8,9 @@ ghost use Rattle.control.specs.Vtype.{sewOf};
 ghost use Rattle.decode.specs.Fields.{Fits};
 ghost use Rattle.plan.specs.Plan.{planOf};
 ghost use Rattle.plan.specs.Sources.{registersRead};
-ghost use Rattle.plan.specs.Range.{ReadInRange, InRange, PlanFits, listed, SourcesInRange};
+ghost use Rattle.plan.specs.Range.{ReadInRange, InRange, ReductionInRange, OneTurnFits, PlanFits, listed, SourcesInRange};
 ghost use Rattle.legality.specs.Legal.{startable, readFits, writesRegisters, isBit, operandsFit, isThere, elementsLegal};
-ghost use Rattle.legality.specs.Legal.{writesMask, maskApart, oneTurnLegal};
+ghost use Rattle.legality.specs.Legal.{writesMask, maskApart, reductionPlaced, oneTurnLegal};
 ghost use Rattle.legality.specs.Legal.{mayShareEach, sourcesFit, kindLegal, legalOf, checkedOf};
 use control::Board;
 use control::Control;
@@ -23,6 +23,7 @@ use plan::Elementwise;
 use plan::OneTurn;
 use plan::Plan;
 use plan::Read;
+use plan::Reduction;
 use plan::Sources;
 
 // vill is clear, and vstart below 8 * VLEN / SEW.
@@ -126,13 +127,27 @@ fn mask_apart(m: MaskInstruction) -> bool
     !writes_mask(op) | ((m.rd != m.vs2) & (!m.masked | (m.rd != 0)))
 }
 
+// The accumulator has an EEW that there is, and the group of vs2 is well placed.
+fn reduction_placed(elen: usize, r: Reduction) -> bool
+    requires { ⌜ ReductionInRange r ⌝ }
+    ensures { λ z. ⌜ z ≡ reductionPlaced elen r ⌝ }
+{
+    let vd = r.vd;
+    let vs2 = r.vs2;
+    (vd.eew <= elen) & group::placed(elen, vs2)
+}
+
 fn one_turn_legal(board: Board, control: Control, t: OneTurn) -> bool
-    requires { ⌜ Valid board ⌝ }
+    requires { ⌜ Valid board × OneTurnFits t ⌝ }
     ensures { λ r. ⌜ r ≡ oneTurnLegal board control t ⌝ }
 {
     match t {
         OneTurn::Setting(_) => true,
         OneTurn::Mask(m) => may_start(board, control) & ((control.vstart == 0) & mask_apart(m)),
+        OneTurn::Reduction(r) => {
+            may_start(board, control)
+                & ((control.vstart == 0) & reduction_placed(board.elen as usize, r))
+        }
     }
 }
 

@@ -40,7 +40,7 @@ use Rattle.plan.specs.declared.OneTurn.{OneTurn}
 use Rattle.plan.specs.declared.OneTurn.the-variants as O
 use Rattle.plan.specs.declared.Plan.{Plan}
 use Rattle.plan.specs.declared.Plan.the-variants as P
-use Rattle.plan.specs.Plan.{shapedOf, byMode, planOf}
+use Rattle.plan.specs.Plan.{shapedOf, byMode, reducingBy, planOf}
 use Rattle.legality.specs.Legal.{legalOf}
 use Rattle.turn_theory.specs.Turn.{finished, paused, trapped, rejected, Semantics, Point, TurnEnd, Turn}
 use Rattle.turn_theory.specs.Turn.{turn, turns, Opening, NoneFinishes, finalRights, uncutRun}
@@ -231,6 +231,7 @@ unfolding oneTurnResult settingResult
 result-vstart b P.Illegal s h = h
 result-vstart b (P.OneTurn (O.Setting t)) s h = set-vstart b (s .control) (typeFrom (s .scalars) (t .vtype)) (avlFrom (s .scalars) (t .avl))
 result-vstart b (P.OneTurn (O.Mask m)) s h = mask-vstart (b .vlenb) (s .control .vl) m s (m .op) h
+result-vstart b (P.OneTurn (O.Reduction r)) s h = h
 result-vstart b (P.Elements e) s h = h
 
 -- ---- the plan goes by none of vstart, vxsat and VS, so that it is the same in each turn
@@ -248,10 +249,11 @@ mode-besides b x c a v q w M.MaskBytes = refl
 mode-besides b x c a v q w (M.Whole n) = refl
 
 plan-besides : (b : Board) (x : List ℕ) (c : Control) (v q w : ℕ) (i : Instruction) → planOf b x (besides c v q w) i ≡ planOf b x c i
-unfolding planOf shapedOf
+unfolding planOf shapedOf reducingBy
 plan-besides b x c v q w I.Illegal = refl
 plan-besides b x c v q w (I.Setting t) = refl
 plan-besides b x c v q w (I.Mask m) = refl
+plan-besides b x c v q w (I.Reduction a) = refl
 plan-besides b x c v q w (I.Arithmetic a) = refl
 plan-besides b x c v q w (I.Memory a) = ap P.Elements (mode-besides b x c a v q w (a .mode))
 

@@ -18,7 +18,7 @@ use Rattle.control.specs.declared.Board.{Board}
 use Rattle.control.specs.Board.{Valid}
 use Rattle.control.specs.Vtype.{lmul8Of, sewOf, vlmaxOf, supportedOf}
 use Rattle.control.proofs.Laws.{lmul8-le, sew-ge, vlmax-le}
-use Rattle.layout.specs.Layout.{elementWidth}
+use Rattle.layout.specs.Layout.{elementWidth, Inside}
 use Rattle.layout.proofs.ElementLaws.{Apart}
 use Rattle.group.specs.declared.Group.{Group}
 use Rattle.group.specs.Group.{emul8Of, maskGroup, registersOf, fieldGroup, spanOf, placedOf, mayOverlapOf}
@@ -72,7 +72,7 @@ width-at (suc (suc (suc (suc (suc (suc zero)))))) h k = tt
 width-at (suc (suc (suc (suc (suc (suc (suc e))))))) h k =
     let l : 2 ^ 7 ≤ 2 ^ suc (suc (suc (suc (suc (suc (suc e)))))) = pow-mono {i = 7} (omega arith) in absurd (omega arith)
 
-power-width : (n : ℕ) → Power n → 8 ≤ n → n ≤ 64 → T (elementWidth n)
+pub power-width : (n : ℕ) → Power n → 8 ≤ n → n ≤ 64 → T (elementWidth n)
 power-width n p h k = subst (λ m. T (elementWidth m)) (sym (p .is)) (width-at (p .exponent) (rw (p .is) at h) (rw (p .is) at k))
 
 -- ---- SEW and LMUL are powers of 2
@@ -231,6 +231,19 @@ module _ (b : Board) (v : ℕ) (w : Valid b) (h : supportedOf b v ≡ true) (eew
     pub extent : (eew ≡ 1 → nf ≡ 0) → (eqb eew 1 || placedOf (b .elen) g) ≡ true → Extent (vlmaxOf b v) (b .vlenb) g
     extent z t =
         ⊎-elim (λ e. let one : eew ≡ 1 = eqb-true eew 1 e in bit-extent one (z one)) placed-extent (or-cases (eqb eew 1) _ t)
+
+-- ---- where elements lie
+
+-- in a group that ends at or below v31, and whose registers hold all elements below `end`
+pub inside : (vlenb end : ℕ) (g : Group) (k : ℕ) → T (elementWidth (g .eew)) → end * g .eew ≤ registersOf g * (8 * vlenb)
+    → g .reg + registersOf g ≤ 32
+    → k < end → Inside (32 * vlenb) vlenb (g .reg) (g .eew) k
+inside vlenb end g k t m u l =
+    let here : (k + 1) * g .eew ≤ end * g .eew = mul-le-mul-right (g .eew) (omega arith) in
+    record { width = t; within = omega (arith, here, m, mul-le-mul-right (8 * vlenb) u) }
+
+pub bit-inside : (vlenb reg k : ℕ) → reg < 32 → k < 8 * vlenb → Inside (32 * vlenb) vlenb reg 1 k
+bit-inside vlenb reg k u l = inside vlenb (8 * vlenb) (maskGroup reg) k tt (omega arith) (omega arith) l
 
 -- ---- the overlap rule
 

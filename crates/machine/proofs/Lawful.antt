@@ -80,6 +80,7 @@ unfolding legalOf kindLegal elementsLegal oneTurnLegal
 legal-vxsat b c sat P.Illegal = refl
 legal-vxsat b c sat (P.OneTurn (O.Setting t)) = refl
 legal-vxsat b c sat (P.OneTurn (O.Mask m)) = refl
+legal-vxsat b c sat (P.OneTurn (O.Reduction r)) = refl
 legal-vxsat b c sat (P.Elements e) = refl
 
 fourth-true : (p q r t u : Bool) → (p && (q && (r && (t && u)))) ≡ true → (p && (q && (r && u))) ≡ true

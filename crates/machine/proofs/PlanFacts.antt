@@ -211,7 +211,7 @@ undisturbed b v e w y l =
     }
 
 -- where vl is not 0, vtype is supported
-supported : (b : Board) (c : Control) → Possible b c → 0 < c .vl → (supportedOf b (c .vtype) ≡ true) × (c .vl ≤ vlmaxOf b (c .vtype))
+pub supported : (b : Board) (c : Control) → Possible b c → 0 < c .vl → (supportedOf b (c .vtype) ≡ true) × (c .vl ≤ vlmaxOf b (c .vtype))
 supported b c t l = ⊎-elim (λ q. absurd (omega arith)) (λ q. q) (typed-well-apart b c (t .typed))
 
 -- ---- arithmetic
@@ -343,6 +343,7 @@ unfolding planOf
 plan-sound b x c I.Illegal w t f = tt
 plan-sound b x c (I.Setting s) w t f = tt
 plan-sound b x c (I.Mask m) w t f = tt
+plan-sound b x c (I.Reduction a) w t f = tt
 plan-sound b x c (I.Arithmetic a) w t f = computing-sound b x c a w t
 plan-sound b x c (I.Memory a) w t f = record {
   end = mode-end b x c a w t f (a .mode) (f .mode);

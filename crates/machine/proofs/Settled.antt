@@ -80,6 +80,7 @@ unfolding kindLegal elementsLegal oneTurnLegal
 kind-settled b c v P.Illegal = refl
 kind-settled b c v (P.OneTurn (O.Setting t)) = refl
 kind-settled b c v (P.OneTurn (O.Mask m)) = refl
+kind-settled b c v (P.OneTurn (O.Reduction r)) = refl
 kind-settled b c v (P.Elements e) = refl
 
 legal-settled : (b : Board) (c : Control) (p : Plan) → legalOf b (asDirty c) p ≡ legalOf b c p
@@ -147,6 +148,7 @@ result-settled b P.Illegal s = refl
 result-settled b (P.OneTurn (O.Setting t)) s =
     rw (set-settled b (s .control) (typeFrom (s .scalars) (t .vtype)) (avlFrom (s .scalars) (t .avl)))
 result-settled b (P.OneTurn (O.Mask m)) s = mask-settled (b .vlenb) (s .control .vl) m s (m .op)
+result-settled b (P.OneTurn (O.Reduction r)) s = refl
 result-settled b (P.Elements e) s = refl
 
 -- ---- VS stays in use
@@ -178,6 +180,7 @@ result-in-use b P.Illegal s h = h
 result-in-use b (P.OneTurn (O.Setting t)) s h =
     set-in-use b (s .control) (typeFrom (s .scalars) (t .vtype)) (avlFrom (s .scalars) (t .avl)) h
 result-in-use b (P.OneTurn (O.Mask m)) s h = mask-in-use (b .vlenb) (s .control .vl) m s (m .op) h
+result-in-use b (P.OneTurn (O.Reduction r)) s h = h
 result-in-use b (P.Elements e) s h = h
 
 -- the state that a turn leaves, with the VS that it sets

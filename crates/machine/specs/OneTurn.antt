@@ -1,10 +1,12 @@
--- Instructions that take one turn: the setting instructions (section 7), vcpop.m, vfirst.m, vmsbf.m, vmsif.m, vmsof.m (16.2 to 16.6).
+-- Instructions that take one turn: the setting instructions (section 7), the reductions (15.1, 15.2), vcpop.m, vfirst.m, vmsbf.m, vmsif.m,
+-- vmsof.m (16.2 to 16.6).
 use Prim.Native.Nat.{ℕ, zero, suc, _+_, _-_, _^_}
 use mathlib.Core.Bool.{Bool, _&&_, cond}
-use mathlib.Core.List.{List}
+use mathlib.Core.List.{List, [], _∷_, foldl}
 use lib.ListN.{set}
 use lib.Dec.{ltb, leb, eqb}
 use Rattle.width.specs.Width.{flag}
+use Rattle.alu.specs.Element.{elementOf}
 use Rattle.control.specs.declared.Board.{Board}
 use Rattle.control.specs.declared.Control.{Control}
 use Rattle.control.specs.declared.Avl.{Avl}
@@ -19,6 +21,8 @@ use Rattle.decode.specs.declared.MaskOp.{MaskOp}
 use Rattle.decode.specs.declared.MaskOp.the-variants.{Vcpop, Vfirst, Vmsbf, Vmsof, Vmsif}
 use Rattle.decode.specs.declared.MaskInstruction.{MaskInstruction}
 use Rattle.layout.specs.Layout.{elementAt, withElement}
+use Rattle.plan.specs.declared.Compute.{Compute}
+use Rattle.plan.specs.declared.Reduction.{Reduction}
 use Rattle.plan.specs.declared.OneTurn.{OneTurn}
 use Rattle.plan.specs.declared.OneTurn.the-variants as O
 use Rattle.plan.specs.Plan.{scalarOf}
@@ -100,8 +104,38 @@ module _ (vlenb vl : ℕ) (m : MaskInstruction) (s : Core) where
   maskResult Vmsof = toMask
   maskResult Vmsif = toMask
 
+-- ---- reductions
+
+-- the elements that a test finds active, of n elements from i up: "[*] denotes all active elements" (section 15.1)
+unfoldable pub activeElements : (ℕ → Bool) → (ℕ → ℕ) → ℕ → ℕ → List ℕ
+activeElements active element i zero = []
+activeElements active element i (suc n) =
+    cond (active i) (element i ∷ activeElements active element (suc i) n) (activeElements active element (suc i) n)
+
+-- an accumulator and an element, joined: they are the operator's vs2 and vs1
+abbrev pub joinedBy : Compute → ℕ → ℕ → ℕ
+joinedBy k acc x = elementOf (k .sew) (k .vxrm) acc x 0 0 (k .op) .value
+
+module _ (vlenb : ℕ) (file : List ℕ) (r : Reduction) where
+  -- vs1[0], and vs2[*] of n elements from i up
+  abbrev pub startOf : ℕ
+  startOf = elementAt vlenb file (r .vs1 .reg) (r .vs1 .eew) 0
+
+  abbrev pub reducedElements : ℕ → ℕ → List ℕ
+  reducedElements i n =
+      activeElements (activeOf vlenb file (r .masked)) (elementAt vlenb file (r .vs2 .reg) (r .vs2 .eew)) i n
+
+  -- "the scalar operand is always included" (section 15): the fold goes from vs1[0] up over vs2[*]
+  abbrev pub reductionOf : ℕ → ℕ
+  reductionOf vl = foldl (joinedBy (r .operator)) startOf (reducedElements 0 vl)
+
+  -- "Only element 0 of the destination is written, with vl 0 nothing" (A4)
+  unfoldable pub reducedFile : ℕ → List ℕ
+  reducedFile vl = cond (eqb vl 0) file (withElement vlenb file (r .vd .reg) (r .vd .eew) 0 (reductionOf vl))
+
 -- ---- each of them
 
 unfoldable pub oneTurnResult : Board → OneTurn → Core → Core
 oneTurnResult b (O.Setting t) s = settingResult b t s
 oneTurnResult b (O.Mask m) s = maskResult (b .vlenb) (s .control .vl) m s (m .op)
+oneTurnResult b (O.Reduction r) s = withRegisters (reducedFile (b .vlenb) (s .registers) r (s .control .vl)) s

@@ -4,24 +4,32 @@ use mathlib.Core.Path.{_≡_, refl, sym, ap, _∙_, subst}
 use mathlib.Core.Bool.{Bool, true, false, not, _&&_, _||_}
 use mathlib.Core.List.{List}
 use lib.Dec.{T, eqb}
+use Rattle.laws.proofs.Apart.{both-right}
 use Rattle.control.specs.declared.Board.{Board}
 use Rattle.control.specs.declared.Control.{Control}
 use Rattle.control.specs.declared.Avl.{Avl}
 use Rattle.control.specs.declared.Avl.the-variants.{To, Keep}
-use Rattle.control.specs.Board.{Valid}
 use Rattle.control.specs.Control.{withVstart, setOf}
+use Rattle.control.proofs.Laws.{Possible, possible-apart}
 use Rattle.decode.specs.declared.Setting.{Setting}
 use Rattle.decode.specs.declared.MaskOp.{MaskOp}
 use Rattle.decode.specs.declared.MaskInstruction.{MaskInstruction}
 use Rattle.decode.specs.Fields.{SettingFits}
+use Rattle.plan.specs.declared.Reduction.{Reduction}
 use Rattle.plan.specs.declared.OneTurn.{OneTurn}
 use Rattle.plan.specs.declared.OneTurn.the-variants as O
+use Rattle.plan.specs.declared.Plan.the-variants as P
+use Rattle.plan.specs.Plan.{planOf}
+use Rattle.plan.specs.Range.{OneTurnFits, PlanFits}
+use Rattle.plan.proofs.RangeLaws.{plan-range}
 use Rattle.legality.specs.Legal.{startable, writesMask, keepsV0, maskApart, oneTurnLegal}
-use Rattle.plan.specs.Range.{OneTurnFits}
 use Rattle.machine.specs.State.{Core}
-use Rattle.machine.specs.OneTurn.{withScalar, avlFrom, typeFrom, settingResult, maskResult, oneTurnResult}
+use Rattle.machine.specs.OneTurn.{withScalar, avlFrom, typeFrom, settingResult, maskResult, reducedFile, oneTurnResult}
 use Rattle.execute.specs.Step.{coreAt}
+use Rattle.reduction.specs.Reducible.{Reducible}
+use Rattle.reduction.proofs.Reductions.{reducible}
 use Rattle.one_turn.specs.Holds.{Holds}
+use Rattle.one_turn.specs.Performable.{Performable}
 
 -- ---- in the arm of the variant v of a mask instruction
 
@@ -54,19 +62,30 @@ spares-v0 m v e f h =
 
 -- ---- in the arm of an instruction that takes one turn
 
-pub setting-fits : (t : OneTurn) (s : Setting) → t ≡ O.Setting s → OneTurnFits t → SettingFits s
-setting-fits t s e f = subst OneTurnFits e f
+module _ (b : Board) (size : ℕ) (x : List ℕ) (c : Control) (t : OneTurn) (h : Performable b size x c t) where
+  one-turn-in-range : OneTurnFits t
+  one-turn-in-range = subst PlanFits (h .plan) (plan-range b x c (h .word) (h .fits))
 
-pub mask-holds : (b : Board) (size vl : ℕ) (t : OneTurn) (m : MaskInstruction) → Valid b → size ≡ 32 * b .vlenb → vl ≤ 8 * b .vlenb
-    → t ≡ O.Mask m
-    → OneTurnFits t → Holds size (b .vlenb) vl m
-mask-holds b size vl t m v e l q f = record { whole = e; most = v .most; within = l; fits = subst OneTurnFits q f }
+  can-be : Possible b c
+  can-be = possible-apart b c (h .possible)
 
-pub mask-is-apart : (b : Board) (c : Control) (t : OneTurn) (m : MaskInstruction) → t ≡ O.Mask m → T (oneTurnLegal b c t) → T (maskApart m)
-unfolding oneTurnLegal
-mask-is-apart b c t m e h =
-    and-holds (eqb (c .vstart) 0) (maskApart m)
-    (and-holds (startable b c) (eqb (c .vstart) 0 && maskApart m) (subst (λ (u : OneTurn). T (oneTurnLegal b c u)) e h))
+  pub setting-fits : (s : Setting) → t ≡ O.Setting s → SettingFits s
+  setting-fits s e = subst OneTurnFits e one-turn-in-range
+
+  pub mask-holds : (m : MaskInstruction) → t ≡ O.Mask m → Holds size (b .vlenb) (c .vl) m
+  mask-holds m e =
+      record { whole = h .registers; most = h .valid .most; within = can-be .vl; fits = subst OneTurnFits e one-turn-in-range }
+
+  pub mask-is-apart : (m : MaskInstruction) → t ≡ O.Mask m → T (maskApart m)
+  unfolding oneTurnLegal
+  mask-is-apart m e =
+      let l : oneTurnLegal b c (O.Mask m) ≡ true = subst (λ (u : OneTurn). oneTurnLegal b c u ≡ true) e (h .is-legal) in
+      rw (both-right (eqb (c .vstart) 0) (maskApart m) (both-right (startable b c) _ l)) tt
+
+  pub reduction-holds : (r : Reduction) → t ≡ O.Reduction r → Reducible size (b .vlenb) r (c .vl)
+  reduction-holds r e =
+      rw (h .registers) (reducible b c (h .valid) can-be x (h .word) r (h .fits) (subst (λ (u : OneTurn). planOf b x c (h .word) ≡ P.OneTurn u) e (h .plan))
+      (subst (λ (u : OneTurn). oneTurnLegal b c u ≡ true) e (h .is-legal)))
 
 -- a setting instruction takes nothing from vstart
 set-any-vstart : (b : Board) (c : Control) (v vtype : ℕ) (avl : Avl) → setOf b (withVstart c v) vtype avl ≡ setOf b c vtype avl
@@ -89,3 +108,9 @@ pub mask-left : (b : Board) (t : OneTurn) (m : MaskInstruction) (file file′ x 
     → (memory : List ℕ) → coreAt file′ memory x′ r ≡ oneTurnResult b t (coreAt file memory x (withVstart c 0))
 unfolding oneTurnResult
 mask-left b t m file file′ x x′ c r e p h memory = rw (e, p) (h memory (withVstart c 0))
+
+pub reduction-left : (b : Board) (t : OneTurn) (z : Reduction) (file file′ x : List ℕ) (c r : Control) → t ≡ O.Reduction z
+    → r ≡ withVstart c 0 → file′ ≡ reducedFile (b .vlenb) file z (c .vl)
+    → (memory : List ℕ) → coreAt file′ memory x r ≡ oneTurnResult b t (coreAt file memory x (withVstart c 0))
+unfolding oneTurnResult
+reduction-left b t z file file′ x c r e p h memory = rw (e, p, h)

@@ -1,4 +1,5 @@
-// Instructions that take one turn: the setting instructions (section 7 of document 000), and those on masks (sections 16.2 to 16.6).
+// Instructions that take one turn: the setting instructions (section 7 of document 000), the reductions (section 15), and those on masks
+// (sections 16.2 to 16.6).
 use control::Avl;
 use control::Board;
 use control::Control;
@@ -19,13 +20,13 @@ ghost use Rattle.control.specs.Board.{Valid};
 ghost use Rattle.control.specs.Control.{withVstart, setOf};
 ghost use Rattle.decode.specs.Fields.{AvlFits, TypeFits, SettingFits, MaskFits};
 ghost use Rattle.layout.specs.Layout.{withElement};
-ghost use Rattle.legality.specs.Legal.{keepsV0, maskApart, oneTurnLegal};
-ghost use Rattle.plan.specs.Range.{OneTurnFits};
+ghost use Rattle.legality.specs.Legal.{keepsV0, maskApart};
 ghost use Rattle.machine.specs.Effect.{activeOf};
 ghost use Rattle.machine.specs.OneTurn.{withScalar, avlFrom, typeFrom, setAt, populationOf, firstOf, firstBit, settingFirst, maskResult};
 ghost use Rattle.machine.specs.OneTurn.{oneTurnResult};
 ghost use Rattle.execute.specs.Step.{coreAt};
 ghost use Rattle.one_turn.specs.Holds.{Holds};
+ghost use Rattle.one_turn.specs.Performable.{Performable};
 
 // ---- scalar registers
 
@@ -207,9 +208,7 @@ pub fn perform(
     control: Control,
     t: OneTurn,
 ) -> Control
-    requires { ⌜
-        Valid board × ((length (now registers) ≡ 32 * board .vlenb) × ((length (now scalars) ≡ 32)
-        × ((control .vl ≤ 8 * board .vlenb) × (OneTurnFits t × T (oneTurnLegal board control t))))) ⌝ }
+    requires { ⌜ Performable board (length (now registers)) (now scalars) control t ⌝ }
     ensures { λ r. ⌜
         ((memory : List ℕ) → coreAt (now (registers .exit)) memory (now (scalars .exit)) r
         ≡ oneTurnResult board t (coreAt (now (registers .entry)) memory (now (scalars .entry)) (withVstart control 0))) ⌝ }
@@ -224,6 +223,10 @@ pub fn perform(
                 control.vl as usize,
                 m,
             );
+            control.with_vstart(0)
+        }
+        OneTurn::Reduction(r) => {
+            reduction::reduce(registers, board.vlenb as usize, r, control.vl as usize);
             control.with_vstart(0)
         }
     }

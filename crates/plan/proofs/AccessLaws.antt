@@ -23,7 +23,7 @@ use Rattle.group.specs.declared.Group.{Group}
 use Rattle.plan.specs.declared.Read.the-variants as R
 use Rattle.plan.specs.declared.Transfer.{Transfer}
 use Rattle.plan.specs.declared.Elementwise.{Elementwise}
-use Rattle.plan.specs.Plan.{scalarOf, groupAt, groupsAt, movingOf, byMode, transferringOf}
+use Rattle.plan.specs.Plan.{scalarOf, groupAt, groupsAt, registerAt, movingOf, byMode, transferringOf}
 
 -- ---- bounds
 
@@ -96,7 +96,7 @@ module _ (b : Board) (x : List ℕ) (c : Control) (a : Access) (base : ℕ) (t :
   unfolding byMode
   indexed-is n sew o e q s h i k = in-mode b x c a (M.Indexed n) r e (rw (k, h, i, s, p, q))
 
-  pub mask-is : a .mode ≡ M.MaskBytes → Steps 1 1 → g ≡ record { reg = a .vd; eew = 8; emul8 = 8; nf = 0 }
+  pub mask-is : a .mode ≡ M.MaskBytes → Steps 1 1 → g ≡ registerAt 8 (a .vd)
       → r ≡ movingOf a true g (R.Constant 0) t ((c .vl + 7) / 8) → r ≡ transferringOf b x c a
   unfolding byMode
   mask-is e s h k = in-mode b x c a M.MaskBytes r e (rw (k, h, s, p))

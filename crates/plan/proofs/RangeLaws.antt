@@ -34,11 +34,13 @@ use Rattle.plan.specs.declared.Read.{Read}
 use Rattle.plan.specs.declared.Read.the-variants as R
 use Rattle.plan.specs.declared.Transfer.{Transfer}
 use Rattle.plan.specs.declared.Elementwise.{Elementwise}
+use Rattle.plan.specs.declared.Reduction.{Reduction}
 use Rattle.plan.specs.declared.OneTurn.{OneTurn}
+use Rattle.plan.specs.declared.OneTurn.the-variants as O
 use Rattle.plan.specs.declared.Plan.{Plan}
 use Rattle.plan.specs.declared.Plan.the-variants as P
-use Rattle.plan.specs.Plan.{scalarOf, readAt, groupOf, secondOf, v0Read, shapedOf, computingOf, movingOf, byMode, planOf}
-use Rattle.plan.specs.Range.{ReadInRange, InRange, OneTurnFits, PlanFits}
+use Rattle.plan.specs.Plan.{scalarOf, readAt, groupOf, secondOf, v0Read, shapedOf, computingOf, movingOf, byMode, reducingBy, planOf}
+use Rattle.plan.specs.Range.{ReadInRange, InRange, ReductionInRange, OneTurnFits, PlanFits}
 
 -- ---- the registers of a decoded word are in range
 
@@ -99,10 +101,11 @@ mode-range b x c a M.MaskBytes h k = moving-range a _ _ _ _ _ h tt
 mode-range b x c a (M.Whole n) h k = moving-range a _ _ _ _ _ h tt
 
 pub plan-range : (b : Board) (x : List ℕ) (c : Control) (i : Instruction) → Fits i → PlanFits (planOf b x c i)
-unfolding planOf
+unfolding planOf reducingBy
 plan-range b x c I.Illegal f = tt
 plan-range b x c (I.Setting t) f = f
 plan-range b x c (I.Mask m) f = f
+plan-range b x c (I.Reduction a) f = record { vd = f .vd; vs2 = f .vs2; vs1 = f .vs1 }
 plan-range b x c (I.Arithmetic a) f = computing-range x c a f
 plan-range b x c (I.Memory a) f = mode-range b x c a (a .mode) (f .vd) (f .mode)
 
@@ -113,6 +116,9 @@ planned-range b x c i p e f = rw e (plan-range b x c i f)
 -- in the arm of the variant
 pub one-turn-range : (p : Plan) (t : OneTurn) → p ≡ P.OneTurn t → PlanFits p → OneTurnFits t
 one-turn-range p t e f = subst PlanFits e f
+
+pub reduction-range : (t : OneTurn) (r : Reduction) → t ≡ O.Reduction r → OneTurnFits t → ReductionInRange r
+reduction-range t r e f = subst OneTurnFits e f
 
 pub elements-range : (p : Plan) (e : Elementwise) → p ≡ P.Elements e → PlanFits p → InRange e
 elements-range p e q f = subst PlanFits q f

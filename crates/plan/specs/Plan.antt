@@ -6,6 +6,8 @@ use lib.ListN.{getD}
 use lib.Dec.{eqb}
 use Rattle.width.specs.Width.{signed, wrap}
 use Rattle.fixed.specs.Round.{vxrmOf}
+use Rattle.operation.specs.declared.Op.{Op}
+use Rattle.operation.specs.declared.Op.the-variants.{Vadd, Vand, Vor, Vxor, Vminu, Vmin, Vmaxu, Vmax, VwadduW, VwaddW}
 use Rattle.operation.specs.declared.Size.{Size}
 use Rattle.operation.specs.declared.Size.the-variants.{Absent, Bit, Eighth, Quarter, Half, Single, Double}
 use Rattle.operation.specs.declared.V0.{V0}
@@ -21,6 +23,10 @@ use Rattle.decode.specs.declared.Source.{Source}
 use Rattle.decode.specs.declared.Source.the-variants.{Vector, Scalar, Immediate}
 use Rattle.decode.specs.declared.Mode.{Mode}
 use Rattle.decode.specs.declared.Mode.the-variants.{UnitStride, Strided, Indexed, MaskBytes, Whole}
+use Rattle.decode.specs.declared.ReductionOp.{ReductionOp}
+use Rattle.decode.specs.declared.ReductionOp.the-variants.{Vredsum, Vredand, Vredor, Vredxor, Vredminu, Vredmin, Vredmaxu, Vredmax}
+use Rattle.decode.specs.declared.ReductionOp.the-variants.{Vwredsumu, Vwredsum}
+use Rattle.decode.specs.declared.ReductionInstruction.{ReductionInstruction}
 use Rattle.decode.specs.declared.Instruction.{Instruction}
 use Rattle.decode.specs.declared.Instruction.the-variants as I
 use Rattle.group.specs.declared.Group.{Group}
@@ -30,6 +36,7 @@ use Rattle.plan.specs.declared.Read.the-variants as R
 use Rattle.plan.specs.declared.Transfer.{Transfer}
 use Rattle.plan.specs.declared.Action.the-variants as A
 use Rattle.plan.specs.declared.Elementwise.{Elementwise}
+use Rattle.plan.specs.declared.Reduction.{Reduction}
 use Rattle.plan.specs.declared.OneTurn.the-variants as O
 use Rattle.plan.specs.declared.Plan.{Plan}
 use Rattle.plan.specs.declared.Plan.the-variants as P
@@ -46,6 +53,10 @@ groupsAt v eew reg nf = record { reg = reg; eew = eew; emul8 = emul8Of (sewOf v)
 
 abbrev pub groupAt : ℕ → ℕ → ℕ → Group
 groupAt v eew reg = groupsAt v eew reg 0
+
+-- a register alone, whatever LMUL is: of EMUL 1, and any number will do
+abbrev pub registerAt : ℕ → ℕ → Group
+registerAt eew reg = record { reg = reg; eew = eew; emul8 = 8; nf = 0 }
 
 -- the registers of an operand, by its size: none, a mask register, or a group
 unfoldable pub readAt : ℕ → Size → ℕ → Read
@@ -141,13 +152,48 @@ module _ (b : Board) (x : List ℕ) (c : Control) (a : Access) where
   byMode (Indexed r) =
       movingOf a true (movedAt (sewOf (c .vtype))) (R.Element (groupAt (c .vtype) (a .eew) r)) (steppingBy 0 (sewOf (c .vtype) / 8)) (c .vl)
   byMode MaskBytes =
-      movingOf a true (record { reg = a .vd; eew = 8; emul8 = 8; nf = 0 }) (R.Constant 0) (steppingBy 1 1) ((c .vl + 7) / 8)
+      movingOf a true (registerAt 8 (a .vd)) (R.Constant 0) (steppingBy 1 1) ((c .vl + 7) / 8)
   byMode (Whole n) =
       movingOf a false (record { reg = a .vd; eew = a .eew; emul8 = 8 * n; nf = 0 }) (R.Constant 0) (steppingBy (a .eew / 8) (a .eew / 8))
       (n * (8 * b .vlenb) / a .eew)
 
 abbrev pub transferringOf : Board → List ℕ → Control → Access → Elementwise
 transferringOf b x c a = byMode b x c a (a .mode)
+
+-- ---- reductions (section 15)
+
+-- the "binary operator" of each: an accumulator is its vs2 and its vd, an element its vs1. A sum wraps around as vadd does, a widening sum as
+-- vwaddu.wv and vwadd.wv do, which extend the element
+abbrev pub operatorOf : ReductionOp → Op
+operatorOf Vredsum = Vadd
+operatorOf Vredand = Vand
+operatorOf Vredor = Vor
+operatorOf Vredxor = Vxor
+operatorOf Vredminu = Vminu
+operatorOf Vredmin = Vmin
+operatorOf Vredmaxu = Vmaxu
+operatorOf Vredmax = Vmax
+operatorOf Vwredsumu = VwadduW
+operatorOf Vwredsum = VwaddW
+
+-- by the operator op at a vtype v. The scalars vs1[0] and vd[0] have the width of its result, SEW or 2 * SEW, and are "held in element 0 of a
+-- single vector register, not a vector register group"; vs2 is a group of elements of SEW bits
+module _ (c : Control) (a : ReductionInstruction) where
+  abbrev pub accumulatorAt : Op → ℕ → Group
+  accumulatorAt op reg = registerAt (eewOf (shapeOf op .vd) (sewOf (c .vtype))) reg
+
+  unfoldable pub reducingBy : Op → Reduction
+  reducingBy op =
+      record {
+        vd = accumulatorAt op (a .vd);
+        vs2 = groupAt (c .vtype) (sewOf (c .vtype)) (a .vs2);
+        vs1 = accumulatorAt op (a .vs1);
+        masked = a .masked;
+        operator = record { op = op; sew = sewOf (c .vtype); vxrm = vxrmOf (c .vxrm) };
+      }
+
+abbrev pub reducingOf : Control → ReductionInstruction → Reduction
+reducingOf c a = reducingBy c a (operatorOf (a .op))
 
 -- ---- every decoded word
 
@@ -157,5 +203,6 @@ module _ (b : Board) (x : List ℕ) (c : Control) where
   planOf I.Illegal = P.Illegal
   planOf (I.Setting t) = P.OneTurn (O.Setting t)
   planOf (I.Mask m) = P.OneTurn (O.Mask m)
+  planOf (I.Reduction a) = P.OneTurn (O.Reduction (reducingOf c a))
   planOf (I.Arithmetic a) = P.Elements (computingOf x c a)
   planOf (I.Memory a) = P.Elements (transferringOf b x c a)

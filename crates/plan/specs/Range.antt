@@ -8,6 +8,7 @@ use Rattle.group.specs.declared.Group.{Group}
 use Rattle.plan.specs.declared.Read.{Read}
 use Rattle.plan.specs.declared.Read.the-variants as R
 use Rattle.plan.specs.declared.Elementwise.{Elementwise}
+use Rattle.plan.specs.declared.Reduction.{Reduction}
 use Rattle.plan.specs.declared.Sources.{Sources}
 use Rattle.plan.specs.declared.OneTurn.{OneTurn}
 use Rattle.plan.specs.declared.OneTurn.the-variants as O
@@ -27,9 +28,15 @@ pub record InRange (e : Elementwise) : Type 0 where
   pub vd : ReadInRange (e .vd)
   pub v0 : ReadInRange (e .v0)
 
+pub record ReductionInRange (r : Reduction) : Type 0 where
+  pub vd : r .vd .reg < 32
+  pub vs2 : r .vs2 .reg < 32
+  pub vs1 : r .vs1 .reg < 32
+
 abbrev pub OneTurnFits : OneTurn → Type 0
 OneTurnFits (O.Setting t) = SettingFits t
 OneTurnFits (O.Mask m) = MaskFits m
+OneTurnFits (O.Reduction r) = ReductionInRange r
 
 abbrev pub PlanFits : Plan → Type 0
 PlanFits P.Illegal = Unit {0}

@@ -6,6 +6,7 @@ use Rattle.group.specs.Group.{maskGroup}
 use Rattle.plan.specs.declared.Read.{Read}
 use Rattle.plan.specs.declared.Read.the-variants as R
 use Rattle.plan.specs.declared.Elementwise.{Elementwise}
+use Rattle.plan.specs.declared.Reduction.{Reduction}
 use Rattle.plan.specs.declared.OneTurn.{OneTurn}
 use Rattle.plan.specs.declared.OneTurn.the-variants as O
 use Rattle.plan.specs.declared.Plan.{Plan}
@@ -27,10 +28,15 @@ unfoldable pub elementSources : Elementwise → List Group
 elementSources e =
     registersRead (e .vs2) ++ registersRead (e .vs1) ++ registersRead (e .vd) ++ registersRead (v0Source (e .masked) (e .v0))
 
+-- reductions read vs2, vs1 and, where they are masked, v0; vd is written alone
+unfoldable pub reductionSources : Reduction → List Group
+reductionSources r = r .vs2 ∷ r .vs1 ∷ registersRead (v0Source (r .masked) (R.Constant 0))
+
 -- setting instructions read no vector register; those on masks read vs2 and, where they are masked, v0
 abbrev pub oneTurnSources : OneTurn → List Group
 oneTurnSources (O.Setting t) = []
 oneTurnSources (O.Mask m) = registersRead (R.Bit (m .vs2)) ++ registersRead (v0Source (m .masked) (R.Constant 0))
+oneTurnSources (O.Reduction r) = reductionSources r
 
 unfoldable pub sourcesOf : Plan → List Group
 sourcesOf P.Illegal = []

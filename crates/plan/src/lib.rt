@@ -9,9 +9,9 @@ ghost use Rattle.control.specs.Vtype.{sewOf};
 ghost use Rattle.decode.specs.Fields.{SourceFits, ArithmeticFits, AccessFits, Fits};
 ghost use Rattle.plan.specs.declared.Read.the-variants.{Constant};
 ghost use Rattle.plan.specs.Plan.{scalarOf, groupsAt, readAt, groupOf, secondOf, v0Read, v0Masks};
-ghost use Rattle.plan.specs.Plan.{computingOf, movingOf, transferringOf, planOf};
-ghost use Rattle.plan.specs.Sources.{v0Source, elementSources, oneTurnSources, sourcesOf};
-ghost use Rattle.plan.specs.Range.{InRange, OneTurnFits, PlanFits, Lists};
+ghost use Rattle.plan.specs.Plan.{computingOf, movingOf, transferringOf, registerAt, operatorOf, reducingOf, planOf};
+ghost use Rattle.plan.specs.Sources.{v0Source, elementSources, reductionSources, oneTurnSources, sourcesOf};
+ghost use Rattle.plan.specs.Range.{InRange, ReductionInRange, OneTurnFits, PlanFits, Lists};
 use control::Board;
 use control::Control;
 use decode::Access;
@@ -20,6 +20,8 @@ use decode::Instruction;
 use decode::MaskInstruction;
 use decode::MaskOp;
 use decode::Mode;
+use decode::ReductionInstruction;
+use decode::ReductionOp;
 use decode::Setting;
 use decode::Source;
 use fixed::Vxrm;
@@ -73,10 +75,21 @@ pub struct Elementwise {
     pub action: Action,
 }
 
+// A reduction: element 0 of vd gets element 0 of vs1, joined by the operator with each active element of vs2.
+pub struct Reduction {
+    pub vd: Group,
+    pub vs2: Group,
+    pub vs1: Group,
+    // v0 says which elements are active
+    pub masked: bool,
+    pub operator: Compute,
+}
+
 // An instruction that takes one turn.
 pub enum OneTurn {
     Setting(Setting),
     Mask(MaskInstruction),
+    Reduction(Reduction),
 }
 
 // What a decoded word means: nothing, something that takes one turn, or elements.
@@ -300,6 +313,13 @@ fn fixed_group(reg: usize, eew: usize, emul8: u32) -> Group
     }
 }
 
+// A register alone.
+fn register_at(eew: usize, reg: usize) -> Group
+    ensures { λ r. ⌜ r ≡ registerAt eew reg ⌝ }
+{
+    fixed_group(reg, eew, 8)
+}
+
 // A load or a store, by its addressing mode.
 fn transferring(board: Board, x: &[u64], control: Control, a: Access) -> Elementwise
     requires { ⌜ Valid board × ((length (now x) ≡ 32) × ((control .vl ≤ 128) × AccessFits a)) ⌝ }
@@ -329,7 +349,7 @@ fn transferring(board: Board, x: &[u64], control: Control, a: Access) -> Element
         }
         Mode::MaskBytes => {
             let t = transfer_by(a.store, base, 1, 1);
-            moving(a, true, fixed_group(a.vd, 8, 8), plain, t, (vl + 7) / 8)
+            moving(a, true, register_at(8, a.vd), plain, t, (vl + 7) / 8)
         }
         Mode::Whole(n) => {
             let t = transfer_by(a.store, base, bytes, bytes);
@@ -337,6 +357,51 @@ fn transferring(board: Board, x: &[u64], control: Control, a: Access) -> Element
             let group = fixed_group(a.vd, eew as usize, (8 * n) as u32);
             moving(a, false, group, plain, t, end)
         }
+    }
+}
+
+// ---- reductions
+
+// The operator of a reduction.
+fn operator_of(op: ReductionOp) -> Op
+    ensures { λ r. ⌜ r ≡ operatorOf op ⌝ }
+{
+    match op {
+        ReductionOp::Vredsum => Op::Vadd,
+        ReductionOp::Vredand => Op::Vand,
+        ReductionOp::Vredor => Op::Vor,
+        ReductionOp::Vredxor => Op::Vxor,
+        ReductionOp::Vredminu => Op::Vminu,
+        ReductionOp::Vredmin => Op::Vmin,
+        ReductionOp::Vredmaxu => Op::Vmaxu,
+        ReductionOp::Vredmax => Op::Vmax,
+        ReductionOp::Vwredsumu => Op::VwadduW,
+        ReductionOp::Vwredsum => Op::VwaddW,
+    }
+}
+
+// vs1 and vd hold the accumulator, each in a register alone; vs2 is a group.
+fn reducing(control: Control, a: ReductionInstruction) -> Reduction
+    ensures { λ r. ⌜ r ≡ reducingOf control a ⌝ }
+{
+    let name = a.op;
+    let op = operator_of(name);
+    let shape = operation::shape_of(op);
+    let size = shape.vd;
+    let vtype = control.vtype;
+    let sew = Control::sew(vtype);
+    let eew = operation::eew(size, sew) as usize;
+    let vd = register_at(eew, a.vd);
+    let vs2 = groups_at(vtype, sew, a.vs2, 0);
+    let vs1 = register_at(eew, a.vs1);
+    let vxrm = fixed::vxrm_of(control.vxrm);
+    let operator = Compute { op, sew, vxrm };
+    Reduction {
+        vd,
+        vs2,
+        vs1,
+        masked: a.masked,
+        operator,
     }
 }
 
@@ -353,6 +418,7 @@ pub fn plan_of(board: Board, x: &[u64], control: Control, instruction: Instructi
         Instruction::Illegal => Plan::Illegal,
         Instruction::Setting(t) => Plan::OneTurn(OneTurn::Setting(t)),
         Instruction::Mask(m) => Plan::OneTurn(OneTurn::Mask(m)),
+        Instruction::Reduction(a) => Plan::OneTurn(OneTurn::Reduction(reducing(control, a))),
         Instruction::Arithmetic(a) => Plan::Elements(computing(x, control, a)),
         Instruction::Memory(a) => Plan::Elements(transferring(board, x, control, a)),
     }
@@ -382,6 +448,23 @@ fn vs2_and_v0(vs2: Read, v0: Read) -> Sources
     }
 }
 
+// A reduction.
+fn reduction_sources(r: Reduction) -> Sources
+    requires { ⌜ ReductionInRange r ⌝ }
+    ensures { λ s. ⌜ Lists (reductionSources r) s ⌝ }
+{
+    let vs2 = r.vs2;
+    let vs1 = r.vs1;
+    let nothing = Read::Constant(0);
+    let v0 = v0_source(r.masked, nothing);
+    Sources {
+        vs2: Read::Element(vs2),
+        vs1: Read::Element(vs1),
+        vd: nothing,
+        v0,
+    }
+}
+
 // An instruction that takes one turn.
 fn one_turn_sources(t: OneTurn) -> Sources
     requires { ⌜ OneTurnFits t ⌝ }
@@ -391,6 +474,7 @@ fn one_turn_sources(t: OneTurn) -> Sources
     match t {
         OneTurn::Setting(_) => vs2_and_v0(nothing, nothing),
         OneTurn::Mask(m) => vs2_and_v0(Read::Bit(m.vs2), v0_source(m.masked, nothing)),
+        OneTurn::Reduction(r) => reduction_sources(r),
     }
 }
 

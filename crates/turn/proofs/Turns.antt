@@ -43,6 +43,7 @@ use Rattle.machine.specs.Machine.{rejectionAt, resultAt, semanticsOf, outcomeOf
 use Rattle.machine.proofs.Demands.{demand-1, result-vstart}
 use Rattle.execute.specs.Step.{coreAt}
 use Rattle.element_loop.specs.Runnable.{Runnable}
+use Rattle.one_turn.specs.Performable.{Performable}
 
 -- ---- what an accepted state keeps to
 
@@ -54,9 +55,6 @@ module _ (b : Board) (registers scalars memory : ℕ) (rights : List ℕ) (c : C
   pub accepted-possible : Possible b c
   accepted-possible = possible-apart b c (accepted-facts b registers scalars memory rights c accepted .possible)
 
-  pub accepted-registers : registers ≡ 32 * b .vlenb
-  accepted-registers = accepted-facts b registers scalars memory rights c accepted .registers-length
-
   pub accepted-scalars : scalars ≡ 32
   accepted-scalars = accepted-facts b registers scalars memory rights c accepted .scalars-length
 
@@ -64,9 +62,6 @@ module _ (b : Board) (registers scalars memory : ℕ) (rights : List ℕ) (c : C
   pub accepted-sew : Valid b → sewOf (c .vtype) ≤ 64
   accepted-sew w =
       ⊎-elim (λ e. rw (e .0) (omega arith)) (λ e. supported-sew-le b (c .vtype) w (e .0)) (typed-well-apart b c (accepted-possible .typed))
-
-  pub accepted-bits : c .vl ≤ 8 * b .vlenb
-  accepted-bits = accepted-possible .vl
 
   pub accepted-vl : Valid b → c .vl ≤ 128
   accepted-vl w = omega (arith, accepted-possible .vl, w .most)
@@ -107,11 +102,23 @@ module _ (b : Board) (x : List ℕ) (c : Control) (d : Instruction) (p : Plan) (
   pub elements-planned : (e : Elementwise) → p ≡ P.Elements e → (planOf b x c d ≡ P.Elements e) × (legalOf b c (P.Elements e) ≡ true)
   elements-planned e q = legal-checked b c (planOf b x c d) (P.Elements e) (sym h ∙ q) (λ f. let z : _≡_ {A = ℕ} 0 1 = cc in omega arith)
 
-  pub one-turn-fits : (t : OneTurn) → Fits d → p ≡ P.OneTurn t → OneTurnFits t
-  one-turn-fits t f e = subst PlanFits (one-turn-planned t e .0) (plan-range b x c d f)
-
-  pub one-turn-is-legal : (t : OneTurn) → p ≡ P.OneTurn t → T (oneTurnLegal b c t)
-  one-turn-is-legal t e = rw (one-turn-of-legal b c t (one-turn-planned t e .1)) tt
+-- what the turn of an instruction that takes one turn relies on, of an accepted state
+pub one-turn-performable : (b : Board) (word registers memory : ℕ) (x rights : List ℕ) (c : Control) (v : Verdict) (d : Instruction)
+    (p : Plan) (t : OneTurn) → Valid b → v ≡ refusalOf b registers (length x) memory rights c → v ≡ Accepted → d ≡ decodeOf word
+    → p ≡ checkedOf b c (planOf b x c d) → p ≡ P.OneTurn t → Performable b registers x c t
+one-turn-performable b word registers memory x rights c v d p t w q h k u e =
+    let y = one-turn-planned b x c d p u t e in
+    let a = accepted-facts b registers (length x) memory rights c (sym q ∙ h) in
+    record {
+      valid = w;
+      registers = a .registers-length;
+      scalars = a .scalars-length;
+      possible = a .possible;
+      word = d;
+      fits = decoded-fits word d k;
+      plan = y .0;
+      is-legal = one-turn-of-legal b c t (y .1);
+    }
 
 -- ---- a turn by what the state comes to
 

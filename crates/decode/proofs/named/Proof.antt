@@ -9,8 +9,11 @@ named-spec =
     tie.close
     (tie.spec
     (λ c. search needs) (λ c κs. search needs) (λ c. search needs) (λ c κs. search needs) (λ c. search needs) (λ c κs. search needs)
-    (λ c. search needs) (λ c κs. search needs) (λ c. search needs) (λ c κs. search needs) (λ c. search needs) (λ c. search needs)
-    (λ c. search needs) (λ c. search needs) (λ c. search needs) (λ c. search (arm namedOf))
+    (λ c. search needs) (λ c κs. search needs) (λ c. search needs) (λ c κs. search needs) (λ c. search needs) (λ c κs. search needs)
+    (λ c. search needs) (λ c κs. search needs) (λ c. search needs) (λ c κs. search needs) (λ c. search needs) (λ c κs. search needs)
+    (λ c. search needs) (λ c. search needs) (λ c. search needs) (λ c. search needs) (λ c. search needs) (λ c. search (arm namedOf))
     (λ c. rw (c .masked .ensures, c .before .rs2 .ensures, c .before .before .rd .ensures) (search (arm namedOf)))
+    (λ c. rw (c .masked2 .ensures, c .before .rs1 .ensures, c .before .before .rs22 .ensures, c .before .before .before .rd2 .ensures)
+    (search (arm namedOf)))
     (λ c. search (arm namedOf)) (λ c. search (arm namedOf)) (λ c. search (arm namedOf)) (λ c. search (arm namedOf))
     (λ c. search (arm namedOf)) (λ c. search (arm namedOf)))

@@ -1,5 +1,5 @@
 use borrow.Author.Needs.{needs}
-use Rattle.plan.proofs.RangeLaws.{elements-range}
+use Rattle.plan.proofs.RangeLaws.{one-turn-range, elements-range}
 use Rattle.legality.specs.Legal.{kindLegal}
 use Rattle.legality.proofs.LegalLaws.{kind-by}
 use Rattle.legality.proofs.kind_legal.Statement.{statement}
@@ -12,7 +12,7 @@ kind-legal-spec =
     (tie.spec
     (λ c. search needs)
     (λ c. search needs)
-    (λ c κs. search needs)
+    (λ c κs. (search needs, search one-turn-range))
     (λ c. search needs)
     (λ c κs. search elements-range)
     (λ c. search kind-by)

@@ -1,5 +1,6 @@
 use borrow.Author.Needs.{needs}
-use Rattle.plan.proofs.SourceLaws.{setting-listed, mask-listed}
+use Rattle.plan.proofs.RangeLaws.{reduction-range}
+use Rattle.plan.proofs.SourceLaws.{setting-listed, mask-listed, reducing-listed}
 use Rattle.plan.proofs.one_turn_sources.Statement.{statement}
 use Rattle.plan.proofs.one_turn_sources.Tie as tie
 
@@ -12,5 +13,8 @@ one-turn-sources-spec =
     (λ c. search needs)
     (λ c κs. search needs)
     (λ c κs. search needs)
+    (λ c. search needs)
+    (λ c κs. search reduction-range)
     (λ c. search setting-listed)
-    (λ c. search mask-listed))
+    (λ c. search mask-listed)
+    (λ c. search reducing-listed))

@@ -1,7 +1,6 @@
 use borrow.Author.Needs.{needs}
-use Rattle.turn.proofs.Turns.{accepted-registers, accepted-scalars, accepted-sew, accepted-bits, accepted-vl, decoded-fits}
-use Rattle.turn.proofs.Turns.{refused-word, illegal-word, one-turn-fits, one-turn-is-legal, one-turn-word, elements-runnable}
-use Rattle.turn.proofs.Turns.{elements-word}
+use Rattle.turn.proofs.Turns.{accepted-scalars, accepted-sew, accepted-vl, decoded-fits}
+use Rattle.turn.proofs.Turns.{refused-word, illegal-word, one-turn-performable, one-turn-word, elements-runnable, elements-word}
 use Rattle.turn.proofs.turn_on.Statement.{statement}
 use Rattle.turn.proofs.turn_on.Tie as tie
 
@@ -20,23 +19,12 @@ turn-on-spec =
     (λ c κs. search needs)
     (λ c. search needs)
     (λ c κs.
-    let taken = c .before .before .before in (
-      search needs,
-      (
-        search accepted-registers,
-        (
-          search accepted-scalars,
-          (
-            search accepted-bits,
-            (
-              search (one-turn-fits, decoded-fits),
-              one-turn-is-legal _ _ _ _ _ (taken .before .before .checked .ensures) _
-                  (taken .t .given .1),
-            ),
-          ),
-        ),
-      ),
-    ))
+    let taken = c .before .before .before in
+    let plan = taken .before .before in
+    let accepted = plan .before .before .before in
+    one-turn-performable _ _ _ _ _ _ _ _ _ _ _ (accepted .before .before .before .before .before .before .before .pre)
+    (accepted .before .before .refusal-on .ensures) (accepted .enum-told .given .1) (plan .before .decode .ensures)
+    (plan .checked .ensures) (taken .t .given .1))
     (λ c κs. search needs)
     (λ c. search needs)
     (λ c κs.

@@ -1,0 +1,149 @@
+-- A reduction that is legal: its operator, its elements and its scalars are such as the fold relies on.
+use Prim.Native.Nat.{ℕ, _+_, _*_, _≤_, _<_}
+use mathlib.Core.Path.{_≡_, refl, sym, _∙_, subst}
+use mathlib.Core.Bool.{true, _&&_}
+use mathlib.Core.List.{List}
+use native.Mathlib.Nat.{mul-le-mul-right}
+use native.Mathlib.Omega.{arith}
+use lib.Dec.{T, leb, eqb, lit<}
+use borrow.Author.Tests.{leb-true}
+use Rattle.laws.proofs.Apart.{both-left, both-right}
+use Rattle.fixed.specs.declared.Vxrm.{Vxrm}
+use Rattle.operation.specs.declared.Op.{Op}
+use Rattle.operation.specs.declared.Op.the-variants.{Vadd, Vand, Vor, Vxor, Vminu, Vmin, Vmaxu, Vmax, VwadduW, VwaddW}
+use Rattle.operation.specs.Shape.{eewOf, shapeOf, largestSew}
+use Rattle.control.specs.declared.Board.{Board}
+use Rattle.control.specs.declared.Control.{Control}
+use Rattle.control.specs.Board.{Valid}
+use Rattle.control.specs.Vtype.{sewOf, vlmaxOf}
+use Rattle.control.proofs.Laws.{Possible, sew-ge, vlmax-le}
+use Rattle.decode.specs.declared.ReductionOp.{ReductionOp}
+use Rattle.decode.specs.declared.ReductionOp.the-variants.{Vredsum, Vredand, Vredor, Vredxor, Vredminu, Vredmin, Vredmaxu, Vredmax}
+use Rattle.decode.specs.declared.ReductionOp.the-variants.{Vwredsumu, Vwredsum}
+use Rattle.decode.specs.declared.ReductionInstruction.{ReductionInstruction}
+use Rattle.decode.specs.declared.Instruction.{Instruction}
+use Rattle.decode.specs.declared.Instruction.the-variants as I
+use Rattle.decode.specs.Fields.{ReductionFits, Fits}
+use Rattle.layout.specs.Layout.{elementWidth, Inside}
+use Rattle.group.specs.declared.Group.{Group}
+use Rattle.group.specs.Group.{placedOf}
+use Rattle.plan.specs.declared.Reduction.{Reduction}
+use Rattle.plan.specs.declared.OneTurn.the-variants as O
+use Rattle.plan.specs.declared.Plan.{Plan}
+use Rattle.plan.specs.declared.Plan.the-variants as P
+use Rattle.plan.specs.Plan.{groupAt, registerAt, operatorOf, reducingBy, reducingOf, planOf}
+use Rattle.legality.specs.Legal.{startable, reductionPlaced, oneTurnLegal}
+use Rattle.machine.proofs.Geometry.{Power, power-of, product-power, power-width, sew-power, placed-extent, inside, bit-inside}
+use Rattle.machine.proofs.PlanFacts.{supported}
+use Rattle.reduction.specs.Reducible.{Joins, Joinable, Reducible}
+
+-- ---- the operators: on elements of one width, or with an accumulator twice as wide
+
+record Operates (op : Op) (v : ℕ) : Type 0 where
+  joins : (vxrm : Vxrm) → eewOf (shapeOf op .vd) (sewOf v) ≤ 64
+      → Joins (record { op = op; sew = sewOf v; vxrm = vxrm }) (eewOf (shapeOf op .vd) (sewOf v)) (sewOf v)
+  power : Power (eewOf (shapeOf op .vd) (sewOf v))
+  low : 8 ≤ eewOf (shapeOf op .vd) (sewOf v)
+
+module _ (v : ℕ) where
+  operating : (op : Op) (wide : ℕ) → Power wide → sewOf v ≤ wide → (wide ≤ 64 → sewOf v ≤ largestSew op)
+      → eewOf (shapeOf op .vd) (sewOf v) ≡ wide → eewOf (shapeOf op .vs2) (sewOf v) ≡ wide → eewOf (shapeOf op .vs1) (sewOf v) ≡ sewOf v
+      → Operates op v
+  operating op wide w l m p q r = record {
+    joins = λ vxrm h. record { least = sew-ge v; most = m (omega arith); result = refl; accumulator = q ∙ sym p; element = r };
+    power = subst Power (sym p) w;
+    low = omega (arith, sew-ge v);
+  }
+
+  single : (op : Op) → largestSew op ≡ 64 → eewOf (shapeOf op .vd) (sewOf v) ≡ sewOf v → eewOf (shapeOf op .vs2) (sewOf v) ≡ sewOf v
+      → eewOf (shapeOf op .vs1) (sewOf v) ≡ sewOf v → Operates op v
+  single op l = operating op (sewOf v) (sew-power v) (omega arith) (λ h. omega arith)
+
+  widening : (op : Op) → largestSew op ≡ 32 → eewOf (shapeOf op .vd) (sewOf v) ≡ 2 * sewOf v
+      → eewOf (shapeOf op .vs2) (sewOf v) ≡ 2 * sewOf v → eewOf (shapeOf op .vs1) (sewOf v) ≡ sewOf v → Operates op v
+  widening op l = operating op (2 * sewOf v) (product-power 2 (sewOf v) (power-of 1) (sew-power v)) (omega arith) (λ h. omega arith)
+
+  operates : (op : ReductionOp) → Operates (operatorOf op) v
+  operates Vredsum = single Vadd refl refl refl refl
+  operates Vredand = single Vand refl refl refl refl
+  operates Vredor = single Vor refl refl refl refl
+  operates Vredxor = single Vxor refl refl refl refl
+  operates Vredminu = single Vminu refl refl refl refl
+  operates Vredmin = single Vmin refl refl refl refl
+  operates Vredmaxu = single Vmaxu refl refl refl refl
+  operates Vredmax = single Vmax refl refl refl refl
+  operates Vwredsumu = widening VwadduW refl refl refl refl
+  operates Vwredsum = widening VwaddW refl refl refl refl
+
+-- ---- the elements
+
+record Fitting (b : Board) (r : Reduction) : Type 0 where
+  accumulator : r .vd .eew ≤ b .elen
+  placed : placedOf (b .elen) (r .vs2) ≡ true
+
+legal-facts : (b : Board) (c : Control) (r : Reduction) → oneTurnLegal b c (O.Reduction r) ≡ true → Fitting b r
+unfolding oneTurnLegal
+legal-facts b c r h =
+    let f : reductionPlaced (b .elen) r ≡ true =
+    both-right (eqb (c .vstart) 0) _ (both-right (startable b c) _ h) in
+    record {
+      accumulator = leb-true (r .vd .eew) (b .elen) (both-left (leb (r .vd .eew) (b .elen)) (placedOf (b .elen) (r .vs2)) f);
+      placed = both-right (leb (r .vd .eew) (b .elen)) (placedOf (b .elen) (r .vs2)) f;
+    }
+
+-- element 0 of a register alone
+scalar-inside : (b : Board) (eew reg : ℕ) → Valid b → Power eew → 8 ≤ eew → eew ≤ b .elen → reg < 32
+    → Inside (32 * b .vlenb) (b .vlenb) reg eew 0
+scalar-inside b eew reg w p l m u =
+    inside (b .vlenb) 1 (registerAt eew reg) 0 (power-width eew p l (omega (arith, w .elen))) (omega (arith, w .within)) (omega arith)
+    (lit< tt)
+
+module _ (b : Board) (c : Control) (w : Valid b) (t : Possible b c) where
+  -- element i of vs2, below vl
+  element-inside : (reg i : ℕ) → placedOf (b .elen) (groupAt (c .vtype) (sewOf (c .vtype)) reg) ≡ true → reg < 32 → i < c .vl
+      → Inside (32 * b .vlenb) (b .vlenb) reg (sewOf (c .vtype)) i
+  element-inside reg i h u l =
+      let s = supported b c t (omega arith) in
+      let v : ℕ = c .vtype in
+      let g : Group = groupAt v (sewOf v) reg in
+      let x = placed-extent b v w (s .0) (sewOf v) (sew-power v) reg 0 h in
+      inside (b .vlenb) (vlmaxOf b v) g i (x .width) (x .within) (omega (arith, x .ends u)) (omega (arith, s .1))
+
+  reducing-reducible : (a : ReductionInstruction) → ReductionFits a → oneTurnLegal b c (O.Reduction (reducingOf c a)) ≡ true
+      → Reducible (32 * b .vlenb) (b .vlenb) (reducingOf c a) (c .vl)
+  unfolding reducingBy
+  reducing-reducible a f h =
+      let o = operates (c .vtype) (a .op) in
+      let l = legal-facts b c (reducingOf c a) h in
+      record {
+        elements = λ i k. record {
+          joins = o .joins _ (omega (arith, l .accumulator, w .elen));
+          element = element-inside (a .vs2) i (l .placed) (f .vs2) k;
+          mask = bit-inside (b .vlenb) 0 i (lit< tt) (omega (arith, t .vl));
+        };
+        start = scalar-inside b _ (a .vs1) w (o .power) (o .low) (l .accumulator) (f .vs1);
+        result = scalar-inside b _ (a .vd) w (o .power) (o .low) (l .accumulator) (f .vd);
+      }
+
+  -- ---- the plan of a decoded word
+
+  abbrev PlanReducible : Plan → Type 0
+  PlanReducible P.Illegal = Unit {0}
+  PlanReducible (P.OneTurn (O.Setting s)) = Unit {0}
+  PlanReducible (P.OneTurn (O.Mask m)) = Unit {0}
+  PlanReducible (P.OneTurn (O.Reduction r)) =
+      oneTurnLegal b c (O.Reduction r) ≡ true → Reducible (32 * b .vlenb) (b .vlenb) r (c .vl)
+  PlanReducible (P.Elements e) = Unit {0}
+
+  every-plan : (x : List ℕ) (i : Instruction) → Fits i → PlanReducible (planOf b x c i)
+  unfolding planOf
+  every-plan x I.Illegal f = tt
+  every-plan x (I.Setting s) f = tt
+  every-plan x (I.Mask m) f = tt
+  every-plan x (I.Reduction a) f = reducing-reducible a f
+  every-plan x (I.Arithmetic a) f = tt
+  every-plan x (I.Memory a) f = tt
+
+  pub reducible : (x : List ℕ) (i : Instruction) (r : Reduction) → Fits i → planOf b x c i ≡ P.OneTurn (O.Reduction r)
+      → oneTurnLegal b c (O.Reduction r) ≡ true → Reducible (32 * b .vlenb) (b .vlenb) r (c .vl)
+  reducible x i r f e = subst PlanReducible e (every-plan x i f)

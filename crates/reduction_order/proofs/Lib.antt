@@ -1,0 +1,4 @@
+pub mod Bitwise
+pub mod Lesser
+pub mod Folds
+pub mod AnyOrders
