@@ -1,4 +1,5 @@
 pub mod Values
 pub mod SourceCases
 pub mod SegmentCases
+pub mod ReductionCases
 pub mod TrapCases
