@@ -9,7 +9,7 @@ use Rattle.decode.specs.Listing.{listing, find, entryOf}
 use Rattle.decode.specs.Word.{decodeOf, arithmeticOf, resolvedOf}
 use Rattle.layout.specs.Layout.{bytesAt, bitAt, withBytes, elementAt, withElement}
 use Rattle.group.specs.Group.{placedOf, emul8Of, mayShareOf}
-use Rattle.plan.specs.Plan.{reducingBy, planOf}
+use Rattle.plan.specs.Plan.{reducingOf, planOf}
 use Rattle.plan.specs.Sources.{reductionSources, sourcesOf}
 use Rattle.legality.specs.Legal.{oneTurnLegal, sourcesFit, kindLegal, legalOf}
 use Rattle.machine.specs.OneTurn.{activeElements, reducedFile, oneTurnResult}
@@ -18,7 +18,7 @@ use Rattle.examples.specs.ReductionCases.{ReductionCases}
 
 pub reduction-cases : ReductionCases
 unfolding turnOf turn clean written decodeOf arithmeticOf resolvedOf entryOf find listing rejectionAt refusalOf possibleOf typedWellOf
-    supportedOf vlmaxOf planOf reducingBy legalOf kindLegal oneTurnLegal placedOf emul8Of sourcesFit mayShareOf sourcesOf reductionSources
+    supportedOf vlmaxOf planOf reducingOf legalOf kindLegal oneTurnLegal placedOf emul8Of sourcesFit mayShareOf sourcesOf reductionSources
     oneTurnResult reducedFile activeElements elementAt withElement bytesAt bitAt withBytes signed wrap
 reduction-cases = record {
   sum-and-or-xor = refl;

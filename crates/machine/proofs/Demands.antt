@@ -40,7 +40,7 @@ use Rattle.plan.specs.declared.OneTurn.{OneTurn}
 use Rattle.plan.specs.declared.OneTurn.the-variants as O
 use Rattle.plan.specs.declared.Plan.{Plan}
 use Rattle.plan.specs.declared.Plan.the-variants as P
-use Rattle.plan.specs.Plan.{shapedOf, byMode, reducingBy, planOf}
+use Rattle.plan.specs.Plan.{shapedOf, byMode, reducingOf, planOf}
 use Rattle.legality.specs.Legal.{legalOf}
 use Rattle.turn_theory.specs.Turn.{finished, paused, trapped, rejected, Semantics, Point, TurnEnd, Turn}
 use Rattle.turn_theory.specs.Turn.{turn, turns, Opening, NoneFinishes, finalRights, uncutRun}
@@ -249,7 +249,7 @@ mode-besides b x c a v q w M.MaskBytes = refl
 mode-besides b x c a v q w (M.Whole n) = refl
 
 plan-besides : (b : Board) (x : List ℕ) (c : Control) (v q w : ℕ) (i : Instruction) → planOf b x (besides c v q w) i ≡ planOf b x c i
-unfolding planOf shapedOf reducingBy
+unfolding planOf shapedOf reducingOf
 plan-besides b x c v q w I.Illegal = refl
 plan-besides b x c v q w (I.Setting t) = refl
 plan-besides b x c v q w (I.Mask m) = refl

@@ -6,7 +6,7 @@ use mathlib.Core.List.{List, [], _∷_, foldl}
 use lib.ListN.{set}
 use lib.Dec.{ltb, leb, eqb}
 use Rattle.width.specs.Width.{flag}
-use Rattle.alu.specs.Element.{elementOf}
+use Rattle.integer.specs.Integer.{vadd, vwaddu, vwadd-w, vand, vor, vxor, vminu, vmin, vmaxu, vmax}
 use Rattle.control.specs.declared.Board.{Board}
 use Rattle.control.specs.declared.Control.{Control}
 use Rattle.control.specs.declared.Avl.{Avl}
@@ -20,8 +20,10 @@ use Rattle.decode.specs.declared.Setting.{Setting}
 use Rattle.decode.specs.declared.MaskOp.{MaskOp}
 use Rattle.decode.specs.declared.MaskOp.the-variants.{Vcpop, Vfirst, Vmsbf, Vmsof, Vmsif}
 use Rattle.decode.specs.declared.MaskInstruction.{MaskInstruction}
+use Rattle.decode.specs.declared.ReductionOp.{ReductionOp}
+use Rattle.decode.specs.declared.ReductionOp.the-variants.{Vredsum, Vredand, Vredor, Vredxor, Vredminu, Vredmin, Vredmaxu, Vredmax}
+use Rattle.decode.specs.declared.ReductionOp.the-variants.{Vwredsumu, Vwredsum}
 use Rattle.layout.specs.Layout.{elementAt, withElement}
-use Rattle.plan.specs.declared.Compute.{Compute}
 use Rattle.plan.specs.declared.Reduction.{Reduction}
 use Rattle.plan.specs.declared.OneTurn.{OneTurn}
 use Rattle.plan.specs.declared.OneTurn.the-variants as O
@@ -106,28 +108,37 @@ module _ (vlenb vl : ℕ) (m : MaskInstruction) (s : Core) where
 
 -- ---- reductions
 
--- the elements that a test finds active, of n elements from i up: "[*] denotes all active elements" (section 15.1)
+-- the "binary operator" of each (section 15): an accumulator and an element of w bits give the next accumulator. The operators are those of
+-- the element operations; a widening sum is that of vwaddu.wv or vwadd.wv, which extends the element
+abbrev pub joinedBy : ReductionOp → ℕ → ℕ → ℕ → ℕ
+joinedBy Vredsum w acc x = vadd w acc x
+joinedBy Vredand w acc x = vand w acc x
+joinedBy Vredor w acc x = vor w acc x
+joinedBy Vredxor w acc x = vxor w acc x
+joinedBy Vredminu w acc x = vminu w acc x
+joinedBy Vredmin w acc x = vmin w acc x
+joinedBy Vredmaxu w acc x = vmaxu w acc x
+joinedBy Vredmax w acc x = vmax w acc x
+joinedBy Vwredsumu w acc x = vwaddu w acc x
+joinedBy Vwredsum w acc x = vwadd-w w acc x
+
+-- "[*] denotes all active elements" (section 15.1): those of n elements from i up that a test finds active, upward
 unfoldable pub activeElements : (ℕ → Bool) → (ℕ → ℕ) → ℕ → ℕ → List ℕ
 activeElements active element i zero = []
 activeElements active element i (suc n) =
     cond (active i) (element i ∷ activeElements active element (suc i) n) (activeElements active element (suc i) n)
 
--- an accumulator and an element, joined: they are the operator's vs2 and vs1
-abbrev pub joinedBy : Compute → ℕ → ℕ → ℕ
-joinedBy k acc x = elementOf (k .sew) (k .vxrm) acc x 0 0 (k .op) .value
-
 module _ (vlenb : ℕ) (file : List ℕ) (r : Reduction) where
   -- vs1[0], and vs2[*] of n elements from i up
-  abbrev pub startOf : ℕ
-  startOf = elementAt vlenb file (r .vs1 .reg) (r .vs1 .eew) 0
+  abbrev pub scalarIn : ℕ
+  scalarIn = elementAt vlenb file (r .vs1 .reg) (r .vs1 .eew) 0
 
-  abbrev pub reducedElements : ℕ → ℕ → List ℕ
-  reducedElements i n =
-      activeElements (activeOf vlenb file (r .masked)) (elementAt vlenb file (r .vs2 .reg) (r .vs2 .eew)) i n
+  abbrev pub elementsIn : ℕ → ℕ → List ℕ
+  elementsIn i n = activeElements (activeOf vlenb file (r .masked)) (elementAt vlenb file (r .vs2 .reg) (r .vs2 .eew)) i n
 
-  -- "the scalar operand is always included" (section 15): the fold goes from vs1[0] up over vs2[*]
+  -- the fold goes upward from vs1[0], which "is always included" (section 15)
   abbrev pub reductionOf : ℕ → ℕ
-  reductionOf vl = foldl (joinedBy (r .operator)) startOf (reducedElements 0 vl)
+  reductionOf vl = foldl (joinedBy (r .op) (r .sew)) scalarIn (elementsIn 0 vl)
 
   -- "Only element 0 of the destination is written, with vl 0 nothing" (A4)
   unfoldable pub reducedFile : ℕ → List ℕ

@@ -29,7 +29,7 @@ module _ (b : Board) (x : List ℕ) (c : Control) (i : Instruction) where
   pub planned : (v : Instruction) (p : Plan) → i ≡ v → p ≡ planOf b x c v → p ≡ planOf b x c i
   planned v p e h = case (planOf b x c) i v p e h
 
-  pub reduction-planned : (a : ReductionInstruction) (r : Reduction) → i ≡ I.Reduction a → r ≡ reducingOf c a
+  pub reduction-planned : (a : ReductionInstruction) (r : Reduction) → i ≡ I.Reduction a → r ≡ reducingOf (c .vtype) a
       → P.OneTurn (O.Reduction r) ≡ planOf b x c i
   unfolding planOf
   reduction-planned a r q h = planned (I.Reduction a) (P.OneTurn (O.Reduction r)) q (ap (λ (z : Reduction). P.OneTurn (O.Reduction z)) h)

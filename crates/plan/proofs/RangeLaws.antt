@@ -39,7 +39,7 @@ use Rattle.plan.specs.declared.OneTurn.{OneTurn}
 use Rattle.plan.specs.declared.OneTurn.the-variants as O
 use Rattle.plan.specs.declared.Plan.{Plan}
 use Rattle.plan.specs.declared.Plan.the-variants as P
-use Rattle.plan.specs.Plan.{scalarOf, readAt, groupOf, secondOf, v0Read, shapedOf, computingOf, movingOf, byMode, reducingBy, planOf}
+use Rattle.plan.specs.Plan.{scalarOf, readAt, groupOf, secondOf, v0Read, shapedOf, computingOf, movingOf, byMode, reducingOf, planOf}
 use Rattle.plan.specs.Range.{ReadInRange, InRange, ReductionInRange, OneTurnFits, PlanFits}
 
 -- ---- the registers of a decoded word are in range
@@ -101,7 +101,7 @@ mode-range b x c a M.MaskBytes h k = moving-range a _ _ _ _ _ h tt
 mode-range b x c a (M.Whole n) h k = moving-range a _ _ _ _ _ h tt
 
 pub plan-range : (b : Board) (x : List ℕ) (c : Control) (i : Instruction) → Fits i → PlanFits (planOf b x c i)
-unfolding planOf reducingBy
+unfolding planOf reducingOf
 plan-range b x c I.Illegal f = tt
 plan-range b x c (I.Setting t) f = f
 plan-range b x c (I.Mask m) f = f

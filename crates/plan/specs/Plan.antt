@@ -6,8 +6,6 @@ use lib.ListN.{getD}
 use lib.Dec.{eqb}
 use Rattle.width.specs.Width.{signed, wrap}
 use Rattle.fixed.specs.Round.{vxrmOf}
-use Rattle.operation.specs.declared.Op.{Op}
-use Rattle.operation.specs.declared.Op.the-variants.{Vadd, Vand, Vor, Vxor, Vminu, Vmin, Vmaxu, Vmax, VwadduW, VwaddW}
 use Rattle.operation.specs.declared.Size.{Size}
 use Rattle.operation.specs.declared.Size.the-variants.{Absent, Bit, Eighth, Quarter, Half, Single, Double}
 use Rattle.operation.specs.declared.V0.{V0}
@@ -162,38 +160,34 @@ transferringOf b x c a = byMode b x c a (a .mode)
 
 -- ---- reductions (section 15)
 
--- the "binary operator" of each: an accumulator is its vs2 and its vd, an element its vs1. A sum wraps around as vadd does, a widening sum as
--- vwaddu.wv and vwadd.wv do, which extend the element
-abbrev pub operatorOf : ReductionOp → Op
-operatorOf Vredsum = Vadd
-operatorOf Vredand = Vand
-operatorOf Vredor = Vor
-operatorOf Vredxor = Vxor
-operatorOf Vredminu = Vminu
-operatorOf Vredmin = Vmin
-operatorOf Vredmaxu = Vmaxu
-operatorOf Vredmax = Vmax
-operatorOf Vwredsumu = VwadduW
-operatorOf Vwredsum = VwaddW
+-- how wide the scalars vs1[0] and vd[0] are: SEW (section 15.1), or 2 * SEW for the widening sums (section 15.2)
+abbrev pub scalarSize : ReductionOp → Size
+scalarSize Vredsum = Single
+scalarSize Vredand = Single
+scalarSize Vredor = Single
+scalarSize Vredxor = Single
+scalarSize Vredminu = Single
+scalarSize Vredmin = Single
+scalarSize Vredmaxu = Single
+scalarSize Vredmax = Single
+scalarSize Vwredsumu = Double
+scalarSize Vwredsum = Double
 
--- by the operator op at a vtype v. The scalars vs1[0] and vd[0] have the width of its result, SEW or 2 * SEW, and are "held in element 0 of a
--- single vector register, not a vector register group"; vs2 is a group of elements of SEW bits
-module _ (c : Control) (a : ReductionInstruction) where
-  abbrev pub accumulatorAt : Op → ℕ → Group
-  accumulatorAt op reg = registerAt (eewOf (shapeOf op .vd) (sewOf (c .vtype))) reg
+abbrev pub scalarEew : ReductionOp → ℕ → ℕ
+scalarEew op sew = eewOf (scalarSize op) sew
 
-  unfoldable pub reducingBy : Op → Reduction
-  reducingBy op =
-      record {
-        vd = accumulatorAt op (a .vd);
-        vs2 = groupAt (c .vtype) (sewOf (c .vtype)) (a .vs2);
-        vs1 = accumulatorAt op (a .vs1);
-        masked = a .masked;
-        operator = record { op = op; sew = sewOf (c .vtype); vxrm = vxrmOf (c .vxrm) };
-      }
-
-abbrev pub reducingOf : Control → ReductionInstruction → Reduction
-reducingOf c a = reducingBy c a (operatorOf (a .op))
+-- the scalars are "held in element 0 of a single vector register, not a vector register group" (section 15); vs2 is a group of elements of
+-- SEW bits
+unfoldable pub reducingOf : ℕ → ReductionInstruction → Reduction
+reducingOf v a =
+    record {
+      op = a .op;
+      sew = sewOf v;
+      vd = registerAt (scalarEew (a .op) (sewOf v)) (a .vd);
+      vs2 = groupAt v (sewOf v) (a .vs2);
+      vs1 = registerAt (scalarEew (a .op) (sewOf v)) (a .vs1);
+      masked = a .masked;
+    }
 
 -- ---- every decoded word
 
@@ -203,6 +197,6 @@ module _ (b : Board) (x : List ℕ) (c : Control) where
   planOf I.Illegal = P.Illegal
   planOf (I.Setting t) = P.OneTurn (O.Setting t)
   planOf (I.Mask m) = P.OneTurn (O.Mask m)
-  planOf (I.Reduction a) = P.OneTurn (O.Reduction (reducingOf c a))
+  planOf (I.Reduction a) = P.OneTurn (O.Reduction (reducingOf (c .vtype) a))
   planOf (I.Arithmetic a) = P.Elements (computingOf x c a)
   planOf (I.Memory a) = P.Elements (transferringOf b x c a)

@@ -9,7 +9,7 @@ ghost use Rattle.control.specs.Vtype.{sewOf};
 ghost use Rattle.decode.specs.Fields.{SourceFits, ArithmeticFits, AccessFits, Fits};
 ghost use Rattle.plan.specs.declared.Read.the-variants.{Constant};
 ghost use Rattle.plan.specs.Plan.{scalarOf, groupsAt, readAt, groupOf, secondOf, v0Read, v0Masks};
-ghost use Rattle.plan.specs.Plan.{computingOf, movingOf, transferringOf, registerAt, operatorOf, reducingOf, planOf};
+ghost use Rattle.plan.specs.Plan.{computingOf, movingOf, transferringOf, registerAt, scalarSize, reducingOf, planOf};
 ghost use Rattle.plan.specs.Sources.{v0Source, elementSources, reductionSources, oneTurnSources, sourcesOf};
 ghost use Rattle.plan.specs.Range.{InRange, ReductionInRange, OneTurnFits, PlanFits, Lists};
 use control::Board;
@@ -75,14 +75,15 @@ pub struct Elementwise {
     pub action: Action,
 }
 
-// A reduction: element 0 of vd gets element 0 of vs1, joined by the operator with each active element of vs2.
+// A reduction at a SEW: element 0 of vd gets element 0 of vs1, joined with each active element of vs2.
 pub struct Reduction {
+    pub op: ReductionOp,
+    pub sew: u64,
     pub vd: Group,
     pub vs2: Group,
     pub vs1: Group,
     // v0 says which elements are active
     pub masked: bool,
-    pub operator: Compute,
 }
 
 // An instruction that takes one turn.
@@ -362,46 +363,41 @@ fn transferring(board: Board, x: &[u64], control: Control, a: Access) -> Element
 
 // ---- reductions
 
-// The operator of a reduction.
-fn operator_of(op: ReductionOp) -> Op
-    ensures { λ r. ⌜ r ≡ operatorOf op ⌝ }
+// How wide the scalars of a reduction are.
+fn scalar_size(op: ReductionOp) -> Size
+    ensures { λ r. ⌜ r ≡ scalarSize op ⌝ }
 {
     match op {
-        ReductionOp::Vredsum => Op::Vadd,
-        ReductionOp::Vredand => Op::Vand,
-        ReductionOp::Vredor => Op::Vor,
-        ReductionOp::Vredxor => Op::Vxor,
-        ReductionOp::Vredminu => Op::Vminu,
-        ReductionOp::Vredmin => Op::Vmin,
-        ReductionOp::Vredmaxu => Op::Vmaxu,
-        ReductionOp::Vredmax => Op::Vmax,
-        ReductionOp::Vwredsumu => Op::VwadduW,
-        ReductionOp::Vwredsum => Op::VwaddW,
+        ReductionOp::Vredsum => Size::Single,
+        ReductionOp::Vredand => Size::Single,
+        ReductionOp::Vredor => Size::Single,
+        ReductionOp::Vredxor => Size::Single,
+        ReductionOp::Vredminu => Size::Single,
+        ReductionOp::Vredmin => Size::Single,
+        ReductionOp::Vredmaxu => Size::Single,
+        ReductionOp::Vredmax => Size::Single,
+        ReductionOp::Vwredsumu => Size::Double,
+        ReductionOp::Vwredsum => Size::Double,
     }
 }
 
-// vs1 and vd hold the accumulator, each in a register alone; vs2 is a group.
-fn reducing(control: Control, a: ReductionInstruction) -> Reduction
-    ensures { λ r. ⌜ r ≡ reducingOf control a ⌝ }
+// vs1 and vd hold scalars, each in a register alone; vs2 is a group.
+fn reducing(vtype: u64, a: ReductionInstruction) -> Reduction
+    ensures { λ r. ⌜ r ≡ reducingOf vtype a ⌝ }
 {
-    let name = a.op;
-    let op = operator_of(name);
-    let shape = operation::shape_of(op);
-    let size = shape.vd;
-    let vtype = control.vtype;
+    let op = a.op;
     let sew = Control::sew(vtype);
-    let eew = operation::eew(size, sew) as usize;
+    let eew = operation::eew(scalar_size(op), sew) as usize;
     let vd = register_at(eew, a.vd);
     let vs2 = groups_at(vtype, sew, a.vs2, 0);
     let vs1 = register_at(eew, a.vs1);
-    let vxrm = fixed::vxrm_of(control.vxrm);
-    let operator = Compute { op, sew, vxrm };
     Reduction {
+        op,
+        sew,
         vd,
         vs2,
         vs1,
         masked: a.masked,
-        operator,
     }
 }
 
@@ -418,7 +414,7 @@ pub fn plan_of(board: Board, x: &[u64], control: Control, instruction: Instructi
         Instruction::Illegal => Plan::Illegal,
         Instruction::Setting(t) => Plan::OneTurn(OneTurn::Setting(t)),
         Instruction::Mask(m) => Plan::OneTurn(OneTurn::Mask(m)),
-        Instruction::Reduction(a) => Plan::OneTurn(OneTurn::Reduction(reducing(control, a))),
+        Instruction::Reduction(a) => Plan::OneTurn(OneTurn::Reduction(reducing(control.vtype, a))),
         Instruction::Arithmetic(a) => Plan::Elements(computing(x, control, a)),
         Instruction::Memory(a) => Plan::Elements(transferring(board, x, control, a)),
     }

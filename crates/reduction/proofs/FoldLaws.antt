@@ -8,16 +8,15 @@ use native.Mathlib.Nat.{sub-zero}
 use native.Mathlib.Omega.{arith}
 use lib.Dec.{eqb, lit<}
 use borrow.Author.Tests.{ne-eqb}
-use Rattle.fixed.specs.declared.Element.{Element}
-use Rattle.alu.specs.Element.{elementOf, Operands}
-use Rattle.alu.proofs.Bounds.{bounded}
+use Rattle.decode.specs.declared.ReductionOp.{ReductionOp}
 use Rattle.layout.specs.Layout.{elementAt, withElement}
-use Rattle.plan.specs.declared.Compute.{Compute}
 use Rattle.plan.specs.declared.Reduction.{Reduction}
+use Rattle.plan.specs.Plan.{scalarEew}
 use Rattle.machine.specs.Effect.{activeOf}
-use Rattle.machine.specs.OneTurn.{activeElements, joinedBy, startOf, reducedElements, reductionOf, reducedFile}
+use Rattle.machine.specs.OneTurn.{joinedBy, activeElements, scalarIn, elementsIn, reductionOf, reducedFile}
 use Rattle.reduction.specs.Fold.{FoldsUpward}
-use Rattle.reduction.specs.Reducible.{Joins, Joinable, Reducible}
+use Rattle.reduction.specs.Reducible.{Joinable, Reachable, Reducible}
+use Rattle.reduction.proofs.Operators.{joined-lt}
 
 pub folds-upward : FoldsUpward
 unfolding activeElements
@@ -31,42 +30,38 @@ folds-upward f active element acc i n = go (active i)
 
 -- ---- one element
 
-module _ (k : Compute) (wide narrow acc x : ℕ) (j : Joins k wide narrow) (a : acc < 2 ^ wide) (h : x < 2 ^ narrow) where
-  pub operands : Operands (k .op) (k .sew) acc x 0
-  operands = record {
-    least = j .least;
-    most = j .most;
-    vs2-fits = rw (j .accumulator) a;
-    vs1-fits = rw (j .element) h;
-    v0-fits = lit< tt;
-  }
+-- an element as it was read, of the width of its register
+pub joinable : (size vlenb : ℕ) (r : Reduction) (i acc x : ℕ) → Reachable size vlenb r i → acc < 2 ^ scalarEew (r .op) (r .sew)
+    → x < 2 ^ r .vs2 .eew → Joinable (r .op) (r .sew) acc x
+joinable size vlenb r i acc x h a k = record { least = h .least; most = h .most; acc-fits = a; x-fits = rw (h .width) at k }
 
-  pub joined-fits : (z : Element) → z ≡ elementOf (k .sew) (k .vxrm) acc x 0 0 (k .op) → z .value < 2 ^ wide
-  joined-fits z e = rw (e, ← j .result) (bounded (k .sew) (k .vxrm) acc x 0 0 (k .op) operands)
+pub active-step : (t a : Bool) (op : ReductionOp) (sew acc x y z : ℕ) → t ≡ a → t ≡ true → x ≡ y → z ≡ joinedBy op sew acc x
+    → z ≡ cond a (joinedBy op sew acc y) acc
+active-step t a op sew acc x y z e h p q = rw (← e, h, ← p) q
 
-pub active-joined : (t a : Bool) (k : Compute) (acc x y : ℕ) (z : Element) → t ≡ a → t ≡ true → x ≡ y
-    → z ≡ elementOf (k .sew) (k .vxrm) acc x 0 0 (k .op) → z .value ≡ cond a (joinedBy k acc y) acc
-active-joined t a k acc x y z e h p q = rw (← e, h, ← p, q)
+pub active-fits : (size vlenb : ℕ) (r : Reduction) (i acc x z : ℕ) → Reachable size vlenb r i → acc < 2 ^ scalarEew (r .op) (r .sew)
+    → x < 2 ^ r .vs2 .eew → z ≡ joinedBy (r .op) (r .sew) acc x → z < 2 ^ scalarEew (r .op) (r .sew)
+active-fits size vlenb r i acc x z h a k e = rw e (joined-lt (r .op) (r .sew) acc x a (rw (h .width) at k))
 
-pub inactive-joined : (t a : Bool) (acc y : ℕ) → t ≡ a → t ≡ false → acc ≡ cond a y acc
-inactive-joined t a acc y e h = rw (← e, h)
+pub inactive-step : (t a : Bool) (acc y : ℕ) → t ≡ a → t ≡ false → acc ≡ cond a y acc
+inactive-step t a acc y e h = rw (← e, h)
 
 -- ---- while elements are folded: those below i have been
 
 module _ (vlenb : ℕ) (file : List ℕ) (r : Reduction) (vl : ℕ) where
   pub record Folding (i acc : ℕ) : Type 0 where
     pub passed : i ≤ vl
-    pub fits : acc < 2 ^ r .vs1 .eew
+    pub fits : acc < 2 ^ scalarEew (r .op) (r .sew)
     -- the others, from here, give what all give
-    pub rest : foldl (joinedBy (r .operator)) acc (reducedElements vlenb file r i (vl - i)) ≡ reductionOf vlenb file r vl
+    pub rest : foldl (joinedBy (r .op) (r .sew)) acc (elementsIn vlenb file r i (vl - i)) ≡ reductionOf vlenb file r vl
 
-  pub folding-none : (acc : ℕ) → acc ≡ startOf vlenb file r → acc < 2 ^ r .vs1 .eew → Folding 0 acc
-  folding-none acc e h = record { passed = omega arith; fits = h; rest = rw (e, sub-zero vl) }
+  pub folding-none : (size acc : ℕ) → Reducible size vlenb r vl → acc ≡ scalarIn vlenb file r → acc < 2 ^ r .vs1 .eew → Folding 0 acc
+  folding-none size acc k e h = record { passed = omega arith; fits = rw (k .accumulator) at h; rest = rw (e, sub-zero vl) }
 
   pub folding-more : (i acc z : ℕ) → Folding i acc → i < vl
       → z ≡ cond (activeOf vlenb file (r .masked) i)
-      (joinedBy (r .operator) acc (elementAt vlenb file (r .vs2 .reg) (r .vs2 .eew) i)) acc
-      → z < 2 ^ r .vs1 .eew → Folding (i + 1) z
+      (joinedBy (r .op) (r .sew) acc (elementAt vlenb file (r .vs2 .reg) (r .vs2 .eew) i)) acc
+      → z < 2 ^ scalarEew (r .op) (r .sew) → Folding (i + 1) z
   folding-more i acc z g l e h =
       let s : vl - i ≡ suc (vl - suc i) = omega arith in
       record {
@@ -74,13 +69,13 @@ module _ (vlenb : ℕ) (file : List ℕ) (r : Reduction) (vl : ℕ) where
         fits = h;
         rest =
             rw (e, add-one i)
-            (sym (folds-upward (joinedBy (r .operator)) (activeOf vlenb file (r .masked))
+            (sym (folds-upward (joinedBy (r .op) (r .sew)) (activeOf vlenb file (r .masked))
             (elementAt vlenb file (r .vs2 .reg) (r .vs2 .eew)) acc i (vl - suc i))
             ∙ (rw s at (g .rest)));
       }
 
-  pub folding-joinable : (size i : ℕ) → Reducible size vlenb r vl → i < vl → Joinable size vlenb r i
-  folding-joinable size i h l = h .elements i l
+  pub folding-reachable : (size i : ℕ) → Reducible size vlenb r vl → i < vl → Reachable size vlenb r i
+  folding-reachable size i h l = h .elements i l
 
   pub folding-all : (i acc : ℕ) → Folding i acc → vl ≤ i → acc ≡ reductionOf vlenb file r vl
   unfolding activeElements

@@ -8,10 +8,6 @@ use native.Mathlib.Omega.{arith}
 use lib.Dec.{T, leb, eqb, lit<}
 use borrow.Author.Tests.{leb-true}
 use Rattle.laws.proofs.Apart.{both-left, both-right}
-use Rattle.fixed.specs.declared.Vxrm.{Vxrm}
-use Rattle.operation.specs.declared.Op.{Op}
-use Rattle.operation.specs.declared.Op.the-variants.{Vadd, Vand, Vor, Vxor, Vminu, Vmin, Vmaxu, Vmax, VwadduW, VwaddW}
-use Rattle.operation.specs.Shape.{eewOf, shapeOf, largestSew}
 use Rattle.control.specs.declared.Board.{Board}
 use Rattle.control.specs.declared.Control.{Control}
 use Rattle.control.specs.Board.{Valid}
@@ -31,49 +27,35 @@ use Rattle.plan.specs.declared.Reduction.{Reduction}
 use Rattle.plan.specs.declared.OneTurn.the-variants as O
 use Rattle.plan.specs.declared.Plan.{Plan}
 use Rattle.plan.specs.declared.Plan.the-variants as P
-use Rattle.plan.specs.Plan.{groupAt, registerAt, operatorOf, reducingBy, reducingOf, planOf}
+use Rattle.plan.specs.Plan.{groupAt, registerAt, scalarEew, reducingOf, planOf}
 use Rattle.legality.specs.Legal.{startable, reductionPlaced, oneTurnLegal}
 use Rattle.machine.proofs.Geometry.{Power, power-of, product-power, power-width, sew-power, placed-extent, inside, bit-inside}
 use Rattle.machine.proofs.PlanFacts.{supported}
-use Rattle.reduction.specs.Reducible.{Joins, Joinable, Reducible}
+use Rattle.reduction.specs.Reducible.{Reducible}
 
--- ---- the operators: on elements of one width, or with an accumulator twice as wide
+-- ---- the scalars: of SEW bits, or twice as wide
 
-record Operates (op : Op) (v : ℕ) : Type 0 where
-  joins : (vxrm : Vxrm) → eewOf (shapeOf op .vd) (sewOf v) ≤ 64
-      → Joins (record { op = op; sew = sewOf v; vxrm = vxrm }) (eewOf (shapeOf op .vd) (sewOf v)) (sewOf v)
-  power : Power (eewOf (shapeOf op .vd) (sewOf v))
-  low : 8 ≤ eewOf (shapeOf op .vd) (sewOf v)
+record Wide (n : ℕ) : Type 0 where
+  power : Power n
+  low : 8 ≤ n
 
-module _ (v : ℕ) where
-  operating : (op : Op) (wide : ℕ) → Power wide → sewOf v ≤ wide → (wide ≤ 64 → sewOf v ≤ largestSew op)
-      → eewOf (shapeOf op .vd) (sewOf v) ≡ wide → eewOf (shapeOf op .vs2) (sewOf v) ≡ wide → eewOf (shapeOf op .vs1) (sewOf v) ≡ sewOf v
-      → Operates op v
-  operating op wide w l m p q r = record {
-    joins = λ vxrm h. record { least = sew-ge v; most = m (omega arith); result = refl; accumulator = q ∙ sym p; element = r };
-    power = subst Power (sym p) w;
-    low = omega (arith, sew-ge v);
-  }
+single : (v : ℕ) → Wide (sewOf v)
+single v = record { power = sew-power v; low = sew-ge v }
 
-  single : (op : Op) → largestSew op ≡ 64 → eewOf (shapeOf op .vd) (sewOf v) ≡ sewOf v → eewOf (shapeOf op .vs2) (sewOf v) ≡ sewOf v
-      → eewOf (shapeOf op .vs1) (sewOf v) ≡ sewOf v → Operates op v
-  single op l = operating op (sewOf v) (sew-power v) (omega arith) (λ h. omega arith)
+double : (v : ℕ) → Wide (2 * sewOf v)
+double v = record { power = product-power 2 (sewOf v) (power-of 1) (sew-power v); low = omega (arith, sew-ge v) }
 
-  widening : (op : Op) → largestSew op ≡ 32 → eewOf (shapeOf op .vd) (sewOf v) ≡ 2 * sewOf v
-      → eewOf (shapeOf op .vs2) (sewOf v) ≡ 2 * sewOf v → eewOf (shapeOf op .vs1) (sewOf v) ≡ sewOf v → Operates op v
-  widening op l = operating op (2 * sewOf v) (product-power 2 (sewOf v) (power-of 1) (sew-power v)) (omega arith) (λ h. omega arith)
-
-  operates : (op : ReductionOp) → Operates (operatorOf op) v
-  operates Vredsum = single Vadd refl refl refl refl
-  operates Vredand = single Vand refl refl refl refl
-  operates Vredor = single Vor refl refl refl refl
-  operates Vredxor = single Vxor refl refl refl refl
-  operates Vredminu = single Vminu refl refl refl refl
-  operates Vredmin = single Vmin refl refl refl refl
-  operates Vredmaxu = single Vmaxu refl refl refl refl
-  operates Vredmax = single Vmax refl refl refl refl
-  operates Vwredsumu = widening VwadduW refl refl refl refl
-  operates Vwredsum = widening VwaddW refl refl refl refl
+scalars : (v : ℕ) (op : ReductionOp) → Wide (scalarEew op (sewOf v))
+scalars v Vredsum = single v
+scalars v Vredand = single v
+scalars v Vredor = single v
+scalars v Vredxor = single v
+scalars v Vredminu = single v
+scalars v Vredmin = single v
+scalars v Vredmaxu = single v
+scalars v Vredmax = single v
+scalars v Vwredsumu = double v
+scalars v Vwredsum = double v
 
 -- ---- the elements
 
@@ -109,20 +91,23 @@ module _ (b : Board) (c : Control) (w : Valid b) (t : Possible b c) where
       let x = placed-extent b v w (s .0) (sewOf v) (sew-power v) reg 0 h in
       inside (b .vlenb) (vlmaxOf b v) g i (x .width) (x .within) (omega (arith, x .ends u)) (omega (arith, s .1))
 
-  reducing-reducible : (a : ReductionInstruction) → ReductionFits a → oneTurnLegal b c (O.Reduction (reducingOf c a)) ≡ true
-      → Reducible (32 * b .vlenb) (b .vlenb) (reducingOf c a) (c .vl)
-  unfolding reducingBy
+  reducing-reducible : (a : ReductionInstruction) → ReductionFits a → oneTurnLegal b c (O.Reduction (reducingOf (c .vtype) a)) ≡ true
+      → Reducible (32 * b .vlenb) (b .vlenb) (reducingOf (c .vtype) a) (c .vl)
+  unfolding reducingOf
   reducing-reducible a f h =
-      let o = operates (c .vtype) (a .op) in
-      let l = legal-facts b c (reducingOf c a) h in
+      let s = scalars (c .vtype) (a .op) in
+      let l = legal-facts b c (reducingOf (c .vtype) a) h in
       record {
         elements = λ i k. record {
-          joins = o .joins _ (omega (arith, l .accumulator, w .elen));
+          least = sew-ge (c .vtype);
+          most = omega (arith, l .accumulator, w .elen);
+          width = refl;
           element = element-inside (a .vs2) i (l .placed) (f .vs2) k;
           mask = bit-inside (b .vlenb) 0 i (lit< tt) (omega (arith, t .vl));
         };
-        start = scalar-inside b _ (a .vs1) w (o .power) (o .low) (l .accumulator) (f .vs1);
-        result = scalar-inside b _ (a .vd) w (o .power) (o .low) (l .accumulator) (f .vd);
+        accumulator = refl;
+        scalar = scalar-inside b _ (a .vs1) w (s .power) (s .low) (l .accumulator) (f .vs1);
+        result = scalar-inside b _ (a .vd) w (s .power) (s .low) (l .accumulator) (f .vd);
       }
 
   -- ---- the plan of a decoded word

@@ -4,27 +4,45 @@ ghost use mathlib.Core.Bool.{cond};
 ghost use Prim.Native.Nat.{_^_, _<_};
 ghost use lib.ListN.{length};
 ghost use Rattle.layout.specs.Layout.{elementAt};
+ghost use Rattle.plan.specs.Plan.{scalarEew};
 ghost use Rattle.machine.specs.Effect.{activeOf};
 ghost use Rattle.machine.specs.OneTurn.{joinedBy, reductionOf, reducedFile};
-ghost use Rattle.reduction.specs.Reducible.{Joinable, Reducible};
+ghost use Rattle.reduction.specs.Reducible.{Joinable, Reachable, Reducible};
+use decode::ReductionOp;
 use plan::Reduction;
 
+// An accumulator and an element, joined.
+fn joined(op: ReductionOp, sew: u64, acc: u64, x: u64) -> u64
+    requires { ⌜ Joinable op sew acc x ⌝ }
+    ensures { λ r. ⌜ r ≡ joinedBy op sew acc x ⌝ }
+{
+    match op {
+        ReductionOp::Vredsum => integer::add(sew, acc, x),
+        ReductionOp::Vredand => integer::and(sew, acc, x),
+        ReductionOp::Vredor => integer::or(sew, acc, x),
+        ReductionOp::Vredxor => integer::xor(sew, acc, x),
+        ReductionOp::Vredminu => integer::minu(sew, acc, x),
+        ReductionOp::Vredmin => integer::min(sew, acc, x),
+        ReductionOp::Vredmaxu => integer::maxu(sew, acc, x),
+        ReductionOp::Vredmax => integer::max(sew, acc, x),
+        ReductionOp::Vwredsumu => integer::waddu(sew, acc, x),
+        ReductionOp::Vwredsum => integer::wadd_w(sew, acc, x),
+    }
+}
+
 // The accumulator, joined with element i if that is active.
-fn joined(registers: &[u8], vlenb: usize, r: Reduction, i: usize, acc: u64) -> u64
-    requires { ⌜ Joinable (length (now registers)) vlenb r i × (acc < 2 ^ r .vs1 .eew) ⌝ }
+fn step(registers: &[u8], vlenb: usize, r: Reduction, i: usize, acc: u64) -> u64
+    requires { ⌜ Reachable (length (now registers)) vlenb r i × (acc < 2 ^ scalarEew (r .op) (r .sew)) ⌝ }
     ensures { λ z. ⌜
         z ≡ cond (activeOf vlenb (now (registers .entry)) (r .masked) i)
-        (joinedBy (r .operator) acc (elementAt vlenb (now (registers .entry)) (r .vs2 .reg) (r .vs2 .eew) i)) acc ⌝ }
-    ensures { λ z. ⌜ z < 2 ^ r .vs1 .eew ⌝ }
+        (joinedBy (r .op) (r .sew) acc (elementAt vlenb (now (registers .entry)) (r .vs2 .reg) (r .vs2 .eew) i)) acc ⌝ }
+    ensures { λ z. ⌜ z < 2 ^ scalarEew (r .op) (r .sew) ⌝ }
 {
     if execute::active(registers, vlenb, r.masked, i) {
+        let op = r.op;
         let vs2 = r.vs2;
-        let operator = r.operator;
-        let op = operator.op;
-        let vxrm = operator.vxrm;
         let x = layout::read_element(registers, vlenb, vs2.reg, vs2.eew, i);
-        let z = alu::element(op, operator.sew, vxrm, acc, x, 0, 0);
-        return z.value;
+        return joined(op, r.sew, acc, x);
     }
     acc
 }
@@ -38,7 +56,7 @@ fn fold(registers: &[u8], vlenb: usize, r: Reduction, vl: usize) -> u64
     let mut acc = layout::read_element(registers, vlenb, vs1.reg, vs1.eew, 0);
     let mut i: usize = 0;
     while i < vl {
-        acc = joined(registers, vlenb, r, i, acc);
+        acc = step(registers, vlenb, r, i, acc);
         i += 1;
     }
     acc

@@ -7,11 +7,9 @@ use native.Mathlib.Nat.{mod-add-mod, add-mod-mod}
 use native.Mathlib.Omega.{arith}
 use lib.Bits.{and-comm, or-comm, xor-comm}
 use Rattle.laws.proofs.Chain.{either}
-use Rattle.fixed.specs.declared.Vxrm.{Vxrm}
-use Rattle.operation.specs.declared.Form.{Form}
-use Rattle.operation.specs.Shape.{eewOf, shapeAt, shapeOf}
+use Rattle.operation.specs.declared.Size.{Size}
+use Rattle.operation.specs.Shape.{eewOf}
 use Rattle.width.proofs.Bounds.{bounds}
-use Rattle.control.specs.declared.Control.{Control}
 use Rattle.control.specs.Vtype.{sewOf}
 use Rattle.control.proofs.Laws.{sew-ge}
 use Rattle.decode.specs.declared.ReductionOp.{ReductionOp}
@@ -21,8 +19,8 @@ use Rattle.decode.specs.declared.ReductionInstruction.{ReductionInstruction}
 use Rattle.layout.specs.Layout.{elementAt}
 use Rattle.layout.proofs.BytesLaws.{Bytes}
 use Rattle.layout.proofs.ElementLaws.{element-lt}
-use Rattle.plan.specs.Plan.{operatorOf, reducingBy, reducingOf}
-use Rattle.machine.specs.OneTurn.{activeElements, joinedBy, startOf, reducedElements}
+use Rattle.plan.specs.Plan.{scalarEew, reducingOf}
+use Rattle.machine.specs.OneTurn.{joinedBy, activeElements, scalarIn, elementsIn}
 use Rattle.reduction_order.specs.AnyOrder.{Orderless, Numbers, OneWidth, AnyOrder}
 use Rattle.reduction_order.proofs.Bitwise.{and-associates, or-associates, xor-associates}
 use Rattle.reduction_order.proofs.Lesser.{min-associates, min-commutes, max-associates, max-commutes}
@@ -33,50 +31,49 @@ use Rattle.reduction_order.proofs.Folds.{in-any-order}
 sum-associates : (x y z m : ℕ) → ((x + y) % m + z) % m ≡ (x + (y + z) % m) % m
 sum-associates x y z m = mod-add-mod (x + y) m z ∙ ap (λ (n : ℕ). n % m) (omega arith) ∙ sym (add-mod-mod x (y + z) m)
 
-operator : (op : ReductionOp) → OneWidth op → (w : ℕ) → 1 ≤ w → (rm : Vxrm)
-    → Orderless w (joinedBy (record { op = operatorOf op; sew = w; vxrm = rm }))
-operator Vredsum s w h rm = record {
+operator : (op : ReductionOp) → OneWidth op → (w : ℕ) → 1 ≤ w → Orderless w (joinedBy op w)
+operator Vredsum s w h = record {
   closed = λ x y p q. search bounds;
   associative = λ x y z p q r. sum-associates x y z (2 ^ w);
   commutative = λ x y p q. ap (λ (n : ℕ). n % 2 ^ w) (omega arith);
 }
-operator Vredand s w h rm = record {
+operator Vredand s w h = record {
   closed = λ x y p q. search bounds;
   associative = and-associates w;
   commutative = λ x y p q. and-comm x y;
 }
-operator Vredor s w h rm = record {
+operator Vredor s w h = record {
   closed = λ x y p q. search bounds;
   associative = or-associates w;
   commutative = λ x y p q. or-comm x y;
 }
-operator Vredxor s w h rm = record {
+operator Vredxor s w h = record {
   closed = λ x y p q. search bounds;
   associative = xor-associates w;
   commutative = λ x y p q. xor-comm x y;
 }
-operator Vredminu s w h rm = record {
+operator Vredminu s w h = record {
   closed = λ x y p q. search bounds;
   associative = λ x y z p q r. omega arith;
   commutative = λ x y p q. omega arith;
 }
-operator Vredmin s w h rm = record {
+operator Vredmin s w h = record {
   closed = λ x y p q. search bounds;
   associative = λ x y z p q r. min-associates w x y z;
   commutative = min-commutes w;
 }
-operator Vredmaxu s w h rm = record {
+operator Vredmaxu s w h = record {
   closed = λ x y p q. search bounds;
   associative = λ x y z p q r. omega arith;
   commutative = λ x y p q. omega arith;
 }
-operator Vredmax s w h rm = record {
+operator Vredmax s w h = record {
   closed = λ x y p q. search bounds;
   associative = λ x y z p q r. max-associates w x y z;
   commutative = max-commutes w;
 }
-operator Vwredsumu s w h rm = absurd (let z : _≡_ {A = ℕ} 0 1 = cc in omega arith)
-operator Vwredsum s w h rm = absurd (let z : _≡_ {A = ℕ} 0 1 = cc in omega arith)
+operator Vwredsumu s w h = absurd (let z : _≡_ {A = ℕ} 0 1 = cc in omega arith)
+operator Vwredsum s w h = absurd (let z : _≡_ {A = ℕ} 0 1 = cc in omega arith)
 
 -- ---- the elements that a reduction folds over are numbers of SEW bits
 
@@ -88,26 +85,20 @@ active-numbers w active element h i (suc n) =
     let others = active-numbers w active element h (suc i) n in
     either (Numbers w) (active i) _ _ (λ t. (h i, others)) (λ t. others)
 
--- the operator's result has SEW bits
-same-width : (op : ReductionOp) → OneWidth op → (w : ℕ) → eewOf (shapeOf (operatorOf op) .vd) w ≡ w
-same-width op s w = ap (λ (f : Form). eewOf (shapeAt f .vd) w) s
-
-reduced-numbers : (c : Control) (a : ReductionInstruction) → OneWidth (a .op) → (vlenb vl : ℕ) (file : List ℕ) → Bytes file
-    → Numbers (sewOf (c .vtype)) (startOf vlenb file (reducingOf c a) ∷ reducedElements vlenb file (reducingOf c a) 0 vl)
-unfolding reducingBy
-reduced-numbers c a s vlenb vl file h =
-    let w : ℕ = sewOf (c .vtype) in (
-      subst (λ (n : ℕ). elementAt vlenb file (a .vs1) (eewOf (shapeOf (operatorOf (a .op)) .vd) w) 0 < 2 ^ n) (same-width (a .op) s w)
-          (element-lt vlenb file (a .vs1) _ 0 h),
+reduced-numbers : (v : ℕ) (a : ReductionInstruction) → OneWidth (a .op) → (vlenb vl : ℕ) (file : List ℕ) → Bytes file
+    → Numbers (sewOf v) (scalarIn vlenb file (reducingOf v a) ∷ elementsIn vlenb file (reducingOf v a) 0 vl)
+unfolding reducingOf
+reduced-numbers v a s vlenb vl file h =
+    let w : ℕ = sewOf v in (
+      subst (λ (z : Size). elementAt vlenb file (a .vs1) (scalarEew (a .op) w) 0 < 2 ^ eewOf z w) s (element-lt vlenb file (a .vs1) _ 0 h),
       active-numbers w _ _ (λ i. element-lt vlenb file (a .vs2) w i h) 0 vl,
     )
 
 pub any-order : AnyOrder
-unfolding reducingBy
+unfolding reducingOf
 any-order = record {
   operators = operator;
   folds = in-any-order;
-  reductions = λ c a s vlenb vl file h y ys.
-      in-any-order (sewOf (c .vtype)) _ (operator (a .op) s (sewOf (c .vtype)) (omega (arith, sew-ge (c .vtype))) _) _ y _ ys
-      (reduced-numbers c a s vlenb vl file h);
+  reductions = λ v a s vlenb vl file h y ys.
+      in-any-order (sewOf v) _ (operator (a .op) s (sewOf v) (omega (arith, sew-ge v))) _ y _ ys (reduced-numbers v a s vlenb vl file h);
 }

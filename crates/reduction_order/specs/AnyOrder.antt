@@ -4,14 +4,11 @@ use Prim.Native.Nat.{ℕ, _^_, _≤_, _<_}
 use mathlib.Core.Path.{_≡_}
 use mathlib.Core.List.{List, [], _∷_, foldl, Perm}
 use lib.ListN.{getD}
-use Rattle.fixed.specs.declared.Vxrm.{Vxrm}
-use Rattle.operation.specs.declared.Form.the-variants.{SingleWidth}
-use Rattle.operation.specs.Shape.{formOf}
-use Rattle.control.specs.declared.Control.{Control}
+use Rattle.operation.specs.declared.Size.the-variants.{Single}
 use Rattle.decode.specs.declared.ReductionOp.{ReductionOp}
 use Rattle.decode.specs.declared.ReductionInstruction.{ReductionInstruction}
-use Rattle.plan.specs.Plan.{operatorOf, reducingOf}
-use Rattle.machine.specs.OneTurn.{joinedBy, startOf, reducedElements, reductionOf}
+use Rattle.plan.specs.Plan.{scalarSize, reducingOf}
+use Rattle.machine.specs.OneTurn.{joinedBy, scalarIn, elementsIn, reductionOf}
 
 -- an operation on numbers of w bits that is associative and commutative
 pub record Orderless (w : ℕ) (f : ℕ → ℕ → ℕ) : Type 0 where
@@ -24,19 +21,18 @@ abbrev pub Numbers : ℕ → List ℕ → Type 0
 Numbers w [] = Unit {0}
 Numbers w (x ∷ xs) = (x < 2 ^ w) × Numbers w xs
 
--- the eight that are not widening: their operator has operands and a result of one width
+-- the eight that are not widening: scalars and elements have one width
 abbrev pub OneWidth : ReductionOp → Type 0
-OneWidth op = formOf (operatorOf op) ≡ SingleWidth
+OneWidth op = scalarSize op ≡ Single
 
 pub record AnyOrder : Type 0 where
   -- each of the eight operators is associative and commutative, at every SEW
-  pub operators : (op : ReductionOp) → OneWidth op → (w : ℕ) → 1 ≤ w → (rm : Vxrm)
-      → Orderless w (joinedBy (record { op = operatorOf op; sew = w; vxrm = rm }))
+  pub operators : (op : ReductionOp) → OneWidth op → (w : ℕ) → 1 ≤ w → Orderless w (joinedBy op w)
   -- of such an operation, numbers folded in two orders give the same (`Perm`: the one list is the other in another order)
   pub folds : (w : ℕ) (f : ℕ → ℕ → ℕ) → Orderless w f → (x y : ℕ) (xs ys : List ℕ) → Numbers w (x ∷ xs) → Perm (x ∷ xs) (y ∷ ys)
       → foldl f x xs ≡ foldl f y ys
-  -- so what a reduction of one width writes is the fold over vs1[0] and vs2[*] in any order, at every vtype, vl, mask and file of bytes
-  pub reductions : (c : Control) (a : ReductionInstruction) → OneWidth (a .op) → (vlenb vl : ℕ) (file : List ℕ)
+  -- so what a reduction of one width writes is the fold over vs1[0] and vs2[*] in any order, at every vtype, vl and file of bytes
+  pub reductions : (vtype : ℕ) (a : ReductionInstruction) → OneWidth (a .op) → (vlenb vl : ℕ) (file : List ℕ)
       → ((k : ℕ) → getD file k 0 < 2 ^ 8) → (y : ℕ) (ys : List ℕ)
-      → Perm (startOf vlenb file (reducingOf c a) ∷ reducedElements vlenb file (reducingOf c a) 0 vl) (y ∷ ys)
-      → reductionOf vlenb file (reducingOf c a) vl ≡ foldl (joinedBy (reducingOf c a .operator)) y ys
+      → Perm (scalarIn vlenb file (reducingOf vtype a) ∷ elementsIn vlenb file (reducingOf vtype a) 0 vl) (y ∷ ys)
+      → reductionOf vlenb file (reducingOf vtype a) vl ≡ foldl (joinedBy (a .op) (reducingOf vtype a .sew)) y ys

@@ -1,7 +1,7 @@
 use Prim.Native.Nat.{_-_}
 use native.Mathlib.Omega.{arith}
 use borrow.Author.Needs.{needs}
-use Rattle.reduction.proofs.FoldLaws.{Folding, folding-none, folding-more, folding-joinable, folding-all}
+use Rattle.reduction.proofs.FoldLaws.{Folding, folding-none, folding-more, folding-reachable, folding-all}
 use Rattle.reduction.proofs.fold.Statement.{statement}
 use Rattle.reduction.proofs.fold.Tie as tie
 
@@ -13,7 +13,7 @@ fold-spec =
     (λ registers vlenb r vl acc₀ i₀ acc i. vl - i)
     (λ c κs. search needs)
     (λ c. search folding-none)
-    (λ c κs. (search folding-joinable, search needs))
+    (λ c κs. (search folding-reachable, search needs))
     (λ c. omega arith)
     (λ c. omega arith)
     (λ c. search folding-more)
