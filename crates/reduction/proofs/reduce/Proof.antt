@@ -8,5 +8,7 @@ reduce-spec =
     tie.close
     (tie.spec
     (λ c κs. search needs) (λ c κs. search needs) (λ c. search needs)
-    (λ c. search written)
+    (λ c.
+    let folded = c .before .before .before .before in
+    written _ _ _ _ _ _ (folded .before .before .before .if1 .taken) (folded .fold .ensures) (c .before .before .write-element .ensures))
     (λ c. search kept))
