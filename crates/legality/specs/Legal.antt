@@ -1,4 +1,4 @@
--- Whether a plan is legal (sections 4.2, 6.2, 6.3, 8.8, 15 and 16; document 01, 'Words, groups and elements'; document 02, A1, A4, A5 and A8).
+-- Whether a plan is legal (sections 4.2, 6.2, 6.3, 8.8, 15, 16; document 01, 'Words, groups and elements'; document 02, A1, A4, A5, A8).
 use Prim.Native.Nat.{ℕ, _*_, _/_}
 use mathlib.Core.Bool.{Bool, true, false, not, _&&_, _||_, cond}
 use mathlib.Core.List.{List, [], _∷_}
@@ -82,8 +82,8 @@ keepsV0 m = not (m .masked) || not (eqb (m .rd) 0)
 abbrev pub maskApart : MaskInstruction → Bool
 maskApart m = not (writesMask (m .op)) || (not (eqb (m .rd) (m .vs2)) && keepsV0 m)
 
--- the accumulator of a reduction, SEW or 2 * SEW bits wide, is at most ELEN wide; vs2 is a group as any other. vd and vs1 are single
--- registers of any number, and "the destination may overlap any source, and v0 under a mask" (A4)
+-- the scalars of a reduction, SEW or 2 * SEW bits wide, are at most ELEN wide; vs2 is a group as any other. "vs1 and vd are single registers
+-- of any number", and "The destination may overlap any source, and v0 under a mask" (A4)
 abbrev pub reductionPlaced : ℕ → Reduction → Bool
 reductionPlaced elen r = leb (r .vd .eew) elen && placedOf elen (r .vs2)
 

@@ -84,7 +84,7 @@ module _ (b : Board) (size : ℕ) (x : List ℕ) (c : Control) (t : OneTurn) (h 
 
   pub reduction-holds : (r : Reduction) → t ≡ O.Reduction r → Reducible size (b .vlenb) r (c .vl)
   reduction-holds r e =
-      rw (h .registers) (reducible b c (h .valid) can-be x (h .word) r (h .fits) (subst (λ (u : OneTurn). planOf b x c (h .word) ≡ P.OneTurn u) e (h .plan))
+      rw (h .registers) (reducible b c (h .valid) can-be x (h .word) r (h .fits) (h .plan ∙ ap P.OneTurn e)
       (subst (λ (u : OneTurn). oneTurnLegal b c u ≡ true) e (h .is-legal)))
 
 -- a setting instruction takes nothing from vstart

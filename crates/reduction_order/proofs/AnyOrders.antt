@@ -11,7 +11,6 @@ use Rattle.operation.specs.declared.Size.{Size}
 use Rattle.operation.specs.Shape.{eewOf}
 use Rattle.width.proofs.Bounds.{bounds}
 use Rattle.control.specs.Vtype.{sewOf}
-use Rattle.control.proofs.Laws.{sew-ge}
 use Rattle.decode.specs.declared.ReductionOp.{ReductionOp}
 use Rattle.decode.specs.declared.ReductionOp.the-variants.{Vredsum, Vredand, Vredor, Vredxor, Vredminu, Vredmin, Vredmaxu, Vredmax}
 use Rattle.decode.specs.declared.ReductionOp.the-variants.{Vwredsumu, Vwredsum}
@@ -31,49 +30,49 @@ use Rattle.reduction_order.proofs.Folds.{in-any-order}
 sum-associates : (x y z m : ℕ) → ((x + y) % m + z) % m ≡ (x + (y + z) % m) % m
 sum-associates x y z m = mod-add-mod (x + y) m z ∙ ap (λ (n : ℕ). n % m) (omega arith) ∙ sym (add-mod-mod x (y + z) m)
 
-operator : (op : ReductionOp) → OneWidth op → (w : ℕ) → 1 ≤ w → Orderless w (joinedBy op w)
-operator Vredsum s w h = record {
+operator : (op : ReductionOp) → OneWidth op → (w : ℕ) → Orderless w (joinedBy op w)
+operator Vredsum s w = record {
   closed = λ x y p q. search bounds;
   associative = λ x y z p q r. sum-associates x y z (2 ^ w);
   commutative = λ x y p q. ap (λ (n : ℕ). n % 2 ^ w) (omega arith);
 }
-operator Vredand s w h = record {
+operator Vredand s w = record {
   closed = λ x y p q. search bounds;
   associative = and-associates w;
   commutative = λ x y p q. and-comm x y;
 }
-operator Vredor s w h = record {
+operator Vredor s w = record {
   closed = λ x y p q. search bounds;
   associative = or-associates w;
   commutative = λ x y p q. or-comm x y;
 }
-operator Vredxor s w h = record {
+operator Vredxor s w = record {
   closed = λ x y p q. search bounds;
   associative = xor-associates w;
   commutative = λ x y p q. xor-comm x y;
 }
-operator Vredminu s w h = record {
+operator Vredminu s w = record {
   closed = λ x y p q. search bounds;
   associative = λ x y z p q r. omega arith;
   commutative = λ x y p q. omega arith;
 }
-operator Vredmin s w h = record {
+operator Vredmin s w = record {
   closed = λ x y p q. search bounds;
   associative = λ x y z p q r. min-associates w x y z;
   commutative = min-commutes w;
 }
-operator Vredmaxu s w h = record {
+operator Vredmaxu s w = record {
   closed = λ x y p q. search bounds;
   associative = λ x y z p q r. omega arith;
   commutative = λ x y p q. omega arith;
 }
-operator Vredmax s w h = record {
+operator Vredmax s w = record {
   closed = λ x y p q. search bounds;
   associative = λ x y z p q r. max-associates w x y z;
   commutative = max-commutes w;
 }
-operator Vwredsumu s w h = absurd (let z : _≡_ {A = ℕ} 0 1 = cc in omega arith)
-operator Vwredsum s w h = absurd (let z : _≡_ {A = ℕ} 0 1 = cc in omega arith)
+operator Vwredsumu s w = absurd (let z : _≡_ {A = ℕ} 0 1 = cc in omega arith)
+operator Vwredsum s w = absurd (let z : _≡_ {A = ℕ} 0 1 = cc in omega arith)
 
 -- ---- the elements that a reduction folds over are numbers of SEW bits
 
@@ -100,5 +99,5 @@ any-order = record {
   operators = operator;
   folds = in-any-order;
   reductions = λ v a s vlenb vl file h y ys.
-      in-any-order (sewOf v) _ (operator (a .op) s (sewOf v) (omega (arith, sew-ge v))) _ y _ ys (reduced-numbers v a s vlenb vl file h);
+      in-any-order (sewOf v) _ (operator (a .op) s (sewOf v)) _ y _ ys (reduced-numbers v a s vlenb vl file h);
 }

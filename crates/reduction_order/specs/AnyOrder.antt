@@ -1,6 +1,6 @@
--- The fold of a reduction goes upward from vs1[0]. For the eight of one width (section 15.1) any other order gives the same: vd[0] is "sum( vs1[0] ,
--- vs2[*] )", whichever of them comes first, and so on to "xor".
-use Prim.Native.Nat.{ℕ, _^_, _≤_, _<_}
+-- Why the order of a fold does not matter (document 02, A4). The definition goes upward from vs1[0]; for the eight reductions of one width any
+-- other order gives the same, as section 15.1 has it: "sum( vs1[0] , vs2[*] )", whichever of them comes first.
+use Prim.Native.Nat.{ℕ, _^_, _<_}
 use mathlib.Core.Path.{_≡_}
 use mathlib.Core.List.{List, [], _∷_, foldl, Perm}
 use lib.ListN.{getD}
@@ -27,7 +27,7 @@ OneWidth op = scalarSize op ≡ Single
 
 pub record AnyOrder : Type 0 where
   -- each of the eight operators is associative and commutative, at every SEW
-  pub operators : (op : ReductionOp) → OneWidth op → (w : ℕ) → 1 ≤ w → Orderless w (joinedBy op w)
+  pub operators : (op : ReductionOp) → OneWidth op → (w : ℕ) → Orderless w (joinedBy op w)
   -- of such an operation, numbers folded in two orders give the same (`Perm`: the one list is the other in another order)
   pub folds : (w : ℕ) (f : ℕ → ℕ → ℕ) → Orderless w f → (x y : ℕ) (xs ys : List ℕ) → Numbers w (x ∷ xs) → Perm (x ∷ xs) (y ∷ ys)
       → foldl f x xs ≡ foldl f y ys

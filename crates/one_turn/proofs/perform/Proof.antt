@@ -1,5 +1,6 @@
 use borrow.Author.Needs.{needs}
-use Rattle.one_turn.proofs.ResultLaws.{setting-fits, mask-holds, mask-is-apart, reduction-holds, setting-left, mask-left, reduction-left}
+use Rattle.one_turn.proofs.ResultLaws.{setting-fits, mask-holds, mask-is-apart, reduction-holds}
+use Rattle.one_turn.proofs.ResultLaws.{setting-left, mask-left, reduction-left}
 use Rattle.one_turn.proofs.perform.Statement.{statement}
 use Rattle.one_turn.proofs.perform.Tie as tie
 
