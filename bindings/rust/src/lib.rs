@@ -156,8 +156,9 @@ pub struct Turned {
     pub wanted: Wanted,
 }
 
-/// One turn of the instruction `word`, of at most `allowance` elements; of a word that moves segments, of at most so many segments. VS is
-/// Dirty after it, unless the word is illegal or a part refused.
+/// One turn of the instruction `word`, of at most `allowance` elements; of a word that moves segments, of at most so many segments. A
+/// setting word, a reduction, vcpop.m, vfirst.m, vmsbf.m, vmsif.m and vmsof.m take one turn at any allowance and pass 0. VS is Dirty after
+/// it, unless the word is illegal or a part refused.
 pub fn turn(
     word: u32,
     allowance: u32,

@@ -5,7 +5,7 @@ use mathlib.Core.Logic.{⊎-elim}
 use mathlib.Core.Bool.{Bool, true, not, _||_, cond}
 use mathlib.Core.List.{List}
 use native.Mathlib.Omega.{arith}
-use native.Mathlib.Nat.{mul-le-mul-right, div-mul-le-self}
+use native.Mathlib.Nat.{div-mul-le-self}
 use lib.Dec.{T, eqb, lit<}
 use borrow.Author.Tests.{eqb-true, leb-true}
 use Rattle.laws.proofs.Apart.{both-left, or-cases}
@@ -32,7 +32,7 @@ use Rattle.layout.proofs.WidthLaws.{bytes-size}
 use Rattle.layout.proofs.BytesLaws.{Bytes}
 use Rattle.layout.proofs.ElementLaws.{element-lt}
 use Rattle.group.specs.declared.Group.{Group}
-use Rattle.group.specs.Group.{maskGroup, registersOf, fieldGroup, spanOf, placedOf, mayOverlapOf}
+use Rattle.group.specs.Group.{registersOf, fieldGroup, spanOf, placedOf, mayOverlapOf}
 use Rattle.group.proofs.GroupLaws.{placed-facts, fields-before}
 use Rattle.plan.specs.declared.Read.{Read}
 use Rattle.plan.specs.declared.Read.the-variants as R

@@ -1,5 +1,5 @@
 -- The results that the code leaves are those of the definition, arm by arm.
-use Prim.Native.Nat.{ℕ, _*_, _≤_}
+use Prim.Native.Nat.{ℕ}
 use mathlib.Core.Path.{_≡_, refl, sym, ap, _∙_, subst}
 use mathlib.Core.Bool.{Bool, true, false, not, _&&_, _||_}
 use mathlib.Core.List.{List}
@@ -19,7 +19,6 @@ use Rattle.plan.specs.declared.Reduction.{Reduction}
 use Rattle.plan.specs.declared.OneTurn.{OneTurn}
 use Rattle.plan.specs.declared.OneTurn.the-variants as O
 use Rattle.plan.specs.declared.Plan.the-variants as P
-use Rattle.plan.specs.Plan.{planOf}
 use Rattle.plan.specs.Range.{OneTurnFits, PlanFits}
 use Rattle.plan.proofs.RangeLaws.{plan-range}
 use Rattle.legality.specs.Legal.{startable, writesMask, keepsV0, maskApart, oneTurnLegal}

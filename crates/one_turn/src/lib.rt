@@ -12,7 +12,7 @@ use plan::OneTurn;
 ghost use mathlib.Core.Path.{_≡_};
 ghost use mathlib.Core.Bool.{cond};
 ghost use mathlib.Core.List.{List};
-ghost use Prim.Native.Nat.{ℕ, _*_, _^_, _-_, _≤_, _<_};
+ghost use Prim.Native.Nat.{ℕ, _*_, _^_, _-_, _<_};
 ghost use lib.ListN.{length};
 ghost use lib.Dec.{T, ltb};
 ghost use Rattle.control.specs.declared.Control.{Control};

@@ -18,7 +18,6 @@ use decode::Access;
 use decode::Arithmetic;
 use decode::Instruction;
 use decode::MaskInstruction;
-use decode::MaskOp;
 use decode::Mode;
 use decode::ReductionInstruction;
 use decode::ReductionOp;

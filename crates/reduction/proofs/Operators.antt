@@ -1,12 +1,10 @@
 -- The ten operators: what their operands fit, and that a result fits the accumulator.
 use Prim.Native.Nat.{ℕ, _*_, _^_, _≤_, _<_}
-use mathlib.Core.Path.{_≡_, sym, ap, subst}
+use mathlib.Core.Path.{_≡_, subst}
 use native.Mathlib.Omega.{arith}
 use Rattle.width.specs.Width.{Width}
 use Rattle.width.proofs.Bounds.{bounds}
-use Rattle.operation.specs.declared.Size.{Size}
 use Rattle.operation.specs.declared.Size.the-variants.{Single, Double}
-use Rattle.operation.specs.Shape.{eewOf}
 use Rattle.decode.specs.declared.ReductionOp.{ReductionOp}
 use Rattle.decode.specs.declared.ReductionOp.the-variants.{Vredsum, Vredand, Vredor, Vredxor, Vredminu, Vredmin, Vredmaxu, Vredmax}
 use Rattle.decode.specs.declared.ReductionOp.the-variants.{Vwredsumu, Vwredsum}

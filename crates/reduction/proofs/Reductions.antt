@@ -1,18 +1,17 @@
 -- A reduction that is legal: its operator, its elements and its scalars are such as the fold relies on.
-use Prim.Native.Nat.{ℕ, _+_, _*_, _≤_, _<_}
-use mathlib.Core.Path.{_≡_, refl, sym, _∙_, subst}
-use mathlib.Core.Bool.{true, _&&_}
+use Prim.Native.Nat.{ℕ, _*_, _≤_, _<_}
+use mathlib.Core.Path.{_≡_, refl, subst}
+use mathlib.Core.Bool.{true}
 use mathlib.Core.List.{List}
-use native.Mathlib.Nat.{mul-le-mul-right}
 use native.Mathlib.Omega.{arith}
-use lib.Dec.{T, leb, eqb, lit<}
+use lib.Dec.{leb, eqb, lit<}
 use borrow.Author.Tests.{leb-true}
 use Rattle.laws.proofs.Apart.{both-left, both-right}
 use Rattle.control.specs.declared.Board.{Board}
 use Rattle.control.specs.declared.Control.{Control}
 use Rattle.control.specs.Board.{Valid}
 use Rattle.control.specs.Vtype.{sewOf, vlmaxOf}
-use Rattle.control.proofs.Laws.{Possible, sew-ge, vlmax-le}
+use Rattle.control.proofs.Laws.{Possible, sew-ge}
 use Rattle.decode.specs.declared.ReductionOp.{ReductionOp}
 use Rattle.decode.specs.declared.ReductionOp.the-variants.{Vredsum, Vredand, Vredor, Vredxor, Vredminu, Vredmin, Vredmaxu, Vredmax}
 use Rattle.decode.specs.declared.ReductionOp.the-variants.{Vwredsumu, Vwredsum}
@@ -20,7 +19,7 @@ use Rattle.decode.specs.declared.ReductionInstruction.{ReductionInstruction}
 use Rattle.decode.specs.declared.Instruction.{Instruction}
 use Rattle.decode.specs.declared.Instruction.the-variants as I
 use Rattle.decode.specs.Fields.{ReductionFits, Fits}
-use Rattle.layout.specs.Layout.{elementWidth, Inside}
+use Rattle.layout.specs.Layout.{Inside}
 use Rattle.group.specs.declared.Group.{Group}
 use Rattle.group.specs.Group.{placedOf}
 use Rattle.plan.specs.declared.Reduction.{Reduction}

@@ -4,7 +4,7 @@ use mathlib.Core.Path.{_≡_, refl, sym, ap, ap₂, _∙_}
 use mathlib.Core.List.{List, [], _∷_, foldl}
 use native.Mathlib.Nat.{mod-add-mod, mod-eq-of-lt}
 use native.Mathlib.Omega.{arith}
-use lib.IntN.{ℤ, subℕ, _+ℤ_}
+use lib.IntN.{ℤ, _+ℤ_}
 use Rattle.width.specs.Width.{signed, wrap}
 use Rattle.width.proofs.Diff.{add-diff, Wrapped, wrapped, wrap-cong, IsDiff, is-diff}
 use Rattle.width.proofs.SignedLaws.{AsDiff, as-diff, wrap-signed}

@@ -1,12 +1,11 @@
 -- A turn of a word by the tests of the code: refused, illegal, of one turn, or of elements.
-use Prim.Native.Nat.{ℕ, _*_, _≤_}
-use mathlib.Core.Path.{_≡_, refl, sym, ap, _∙_, subst}
+use Prim.Native.Nat.{ℕ, _≤_}
+use mathlib.Core.Path.{_≡_, refl, sym, ap, _∙_}
 use mathlib.Core.Logic.{⊎-elim}
 use mathlib.Core.Bool.{Bool, true, false, not, cond, and-false}
 use mathlib.Core.List.{List}
 use mathlib.Core.Option.{none, some}
 use native.Mathlib.Omega.{arith}
-use lib.Dec.{T}
 use lib.ListN.{length}
 use Rattle.answer.specs.declared.Answer.{Answer}
 use Rattle.answer.specs.declared.Answer.the-variants.{Finished, Illegal}
@@ -30,10 +29,8 @@ use Rattle.plan.specs.declared.OneTurn.{OneTurn}
 use Rattle.plan.specs.declared.Plan.{Plan}
 use Rattle.plan.specs.declared.Plan.the-variants as P
 use Rattle.plan.specs.Plan.{planOf}
-use Rattle.legality.specs.Legal.{oneTurnLegal, kindLegal, legalOf, checkedOf}
+use Rattle.legality.specs.Legal.{kindLegal, legalOf, checkedOf}
 use Rattle.legality.proofs.LegalLaws.{one-turn-of-legal}
-use Rattle.plan.specs.Range.{OneTurnFits, PlanFits}
-use Rattle.plan.proofs.RangeLaws.{plan-range}
 use Rattle.turn_theory.proofs.Laws.{turn-rejected, one-turn}
 use Rattle.machine.specs.declared.Turned.{Turned}
 use Rattle.machine.specs.State.{State, Outcome, Core, coreOf}

@@ -4,7 +4,6 @@
 // the answer, the number passed, the fault address, the page and the right that were wanted, the control record after, and every byte or
 // scalar that has changed; of a check the answer, the element, the number of pages, and the page and the right.
 ghost use Prim.Native.Nat.{_≤_};
-ghost use lib.ListN.{length};
 use access::Wanted;
 use control::Control;
 use machine::Turned;
