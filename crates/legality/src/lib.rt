@@ -127,7 +127,7 @@ fn mask_apart(m: MaskInstruction) -> bool
     !writes_mask(op) | ((m.rd != m.vs2) & (!m.masked | (m.rd != 0)))
 }
 
-// The accumulator has an EEW that there is, and the group of vs2 is well placed.
+// The scalars have an EEW that there is, and the group of vs2 is well placed.
 fn reduction_placed(elen: usize, r: Reduction) -> bool
     requires { ⌜ ReductionInRange r ⌝ }
     ensures { λ z. ⌜ z ≡ reductionPlaced elen r ⌝ }

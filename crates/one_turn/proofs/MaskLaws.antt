@@ -16,15 +16,14 @@ use Rattle.decode.specs.declared.MaskInstruction.{MaskInstruction}
 use Rattle.layout.specs.Layout.{withElement, Inside}
 use Rattle.layout.proofs.ElementLaws.{apart, length-withElement}
 use Rattle.machine.specs.Effect.{activeOf}
+use Rattle.machine.proofs.Geometry as Geometry
 use Rattle.machine.specs.OneTurn.{setAt, populationOf, firstOf, firstBit, settingFirst}
 use Rattle.legality.specs.Legal.{keepsV0}
 
 -- ---- one bit
 
 pub bit-inside : (size vlenb reg i : ℕ) → size ≡ 32 * vlenb → reg < 32 → i < 8 * vlenb → Inside size vlenb reg 1 i
-bit-inside size vlenb reg i e h l =
-    let p : suc reg * vlenb ≤ 32 * vlenb = mul-le-mul-right vlenb h in
-    record { width = tt; within = omega arith }
+bit-inside size vlenb reg i e h l = rw e (Geometry.bit-inside vlenb reg i h l)
 
 pub set-is : (a b : Bool) (x y : ℕ) → a ≡ b → x ≡ y → (a && eqb x 1) ≡ (b && eqb y 1)
 set-is a b x y p q = rw (p, q)

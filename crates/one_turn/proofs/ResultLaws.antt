@@ -101,15 +101,18 @@ setting-left b t s file x x′ c r e p q memory =
     p ∙ sym (set-any-vstart b c 0 (typeFrom x (s .vtype)) (avlFrom x (s .avl))) in
     rw (e, q, h)
 
-pub mask-left : (b : Board) (t : OneTurn) (m : MaskInstruction) (file file′ x x′ : List ℕ) (c r : Control) → t ≡ O.Mask m
+-- what is left where the arms meet: the file z and the scalars y
+pub mask-left : (b : Board) (t : OneTurn) (m : MaskInstruction) (file file′ x x′ z y : List ℕ) (c r : Control) → t ≡ O.Mask m
     → r ≡ withVstart c 0
     → ((memory : List ℕ) (d : Control) → coreAt file′ memory x′ d ≡ maskResult (b .vlenb) (c .vl) m (coreAt file memory x d) (m .op))
-    → (memory : List ℕ) → coreAt file′ memory x′ r ≡ oneTurnResult b t (coreAt file memory x (withVstart c 0))
+    → z ≡ file′ → y ≡ x′
+    → (memory : List ℕ) → coreAt z memory y r ≡ oneTurnResult b t (coreAt file memory x (withVstart c 0))
 unfolding oneTurnResult
-mask-left b t m file file′ x x′ c r e p h memory = rw (e, p) (h memory (withVstart c 0))
+mask-left b t m file file′ x x′ z y c r e p h q u memory = rw (e, p, q, u) (h memory (withVstart c 0))
 
-pub reduction-left : (b : Board) (t : OneTurn) (z : Reduction) (file file′ x : List ℕ) (c r : Control) → t ≡ O.Reduction z
-    → r ≡ withVstart c 0 → file′ ≡ reducedFile (b .vlenb) file z (c .vl)
-    → (memory : List ℕ) → coreAt file′ memory x r ≡ oneTurnResult b t (coreAt file memory x (withVstart c 0))
+pub reduction-left : (b : Board) (t : OneTurn) (r : Reduction) (file file′ x z y : List ℕ) (c d : Control) → t ≡ O.Reduction r
+    → d ≡ withVstart c 0 → file′ ≡ reducedFile (b .vlenb) file r (c .vl)
+    → z ≡ file′ → y ≡ x
+    → (memory : List ℕ) → coreAt z memory y d ≡ oneTurnResult b t (coreAt file memory x (withVstart c 0))
 unfolding oneTurnResult
-reduction-left b t z file file′ x c r e p h memory = rw (e, p, h)
+reduction-left b t r file file′ x z y c d e p h q u memory = rw (e, p, q, u, h)

@@ -214,20 +214,17 @@ pub fn perform(
         ≡ oneTurnResult board t (coreAt (now (registers .entry)) memory (now (scalars .entry)) (withVstart control 0))) ⌝ }
 {
     match t {
-        OneTurn::Setting(s) => setting(board, scalars, control, s),
-        OneTurn::Mask(m) => {
-            mask_turn(
-                registers,
-                scalars,
-                board.vlenb as usize,
-                control.vl as usize,
-                m,
-            );
-            control.with_vstart(0)
-        }
+        OneTurn::Setting(s) => return setting(board, scalars, control, s),
+        OneTurn::Mask(m) => mask_turn(
+            registers,
+            scalars,
+            board.vlenb as usize,
+            control.vl as usize,
+            m,
+        ),
         OneTurn::Reduction(r) => {
-            reduction::reduce(registers, board.vlenb as usize, r, control.vl as usize);
-            control.with_vstart(0)
+            reduction::reduce(registers, board.vlenb as usize, r, control.vl as usize)
         }
     }
+    control.with_vstart(0)
 }

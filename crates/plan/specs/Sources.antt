@@ -28,7 +28,7 @@ unfoldable pub elementSources : Elementwise → List Group
 elementSources e =
     registersRead (e .vs2) ++ registersRead (e .vs1) ++ registersRead (e .vd) ++ registersRead (v0Source (e .masked) (e .v0))
 
--- reductions read vs2, vs1 and, where they are masked, v0; vd is written alone
+-- reductions read vs2, vs1 and, where they are masked, v0; vd is written and not read
 unfoldable pub reductionSources : Reduction → List Group
 reductionSources r = r .vs2 ∷ r .vs1 ∷ registersRead (v0Source (r .masked) (R.Constant 0))
 

@@ -59,7 +59,7 @@ scalars v Vwredsum = double v
 -- ---- the elements
 
 record Fitting (b : Board) (r : Reduction) : Type 0 where
-  accumulator : r .vd .eew ≤ b .elen
+  scalars-fit : r .vd .eew ≤ b .elen
   placed : placedOf (b .elen) (r .vs2) ≡ true
 
 legal-facts : (b : Board) (c : Control) (r : Reduction) → oneTurnLegal b c (O.Reduction r) ≡ true → Fitting b r
@@ -68,7 +68,7 @@ legal-facts b c r h =
     let f : reductionPlaced (b .elen) r ≡ true =
     both-right (eqb (c .vstart) 0) _ (both-right (startable b c) _ h) in
     record {
-      accumulator = leb-true (r .vd .eew) (b .elen) (both-left (leb (r .vd .eew) (b .elen)) (placedOf (b .elen) (r .vs2)) f);
+      scalars-fit = leb-true (r .vd .eew) (b .elen) (both-left (leb (r .vd .eew) (b .elen)) (placedOf (b .elen) (r .vs2)) f);
       placed = both-right (leb (r .vd .eew) (b .elen)) (placedOf (b .elen) (r .vs2)) f;
     }
 
@@ -99,14 +99,14 @@ module _ (b : Board) (c : Control) (w : Valid b) (t : Possible b c) where
       record {
         elements = λ i k. record {
           least = sew-ge (c .vtype);
-          most = omega (arith, l .accumulator, w .elen);
+          most = omega (arith, l .scalars-fit, w .elen);
           width = refl;
           element = element-inside (a .vs2) i (l .placed) (f .vs2) k;
           mask = bit-inside (b .vlenb) 0 i (lit< tt) (omega (arith, t .vl));
         };
         accumulator = refl;
-        scalar = scalar-inside b _ (a .vs1) w (s .power) (s .low) (l .accumulator) (f .vs1);
-        result = scalar-inside b _ (a .vd) w (s .power) (s .low) (l .accumulator) (f .vd);
+        scalar = scalar-inside b _ (a .vs1) w (s .power) (s .low) (l .scalars-fit) (f .vs1);
+        result = scalar-inside b _ (a .vd) w (s .power) (s .low) (l .scalars-fit) (f .vd);
       }
 
   -- ---- the plan of a decoded word

@@ -1,3 +1,4 @@
+use mathlib.Core.Logic.{⊎-elim}
 use borrow.Author.Needs.{needs}
 use Rattle.one_turn.proofs.ResultLaws.{setting-fits, mask-holds, mask-is-apart, reduction-holds}
 use Rattle.one_turn.proofs.ResultLaws.{setting-left, mask-left, reduction-left}
@@ -11,15 +12,12 @@ perform-spec =
     (λ c. search needs)
     (λ c κs. (search needs, (search needs, search setting-fits)))
     (λ c. search needs)
+    (λ c. search setting-left)
+    (λ c. search needs)
     (λ c κs. (search mask-holds, (search needs, search mask-is-apart)))
-    (λ c κs. search needs)
     (λ c. search needs)
     (λ c κs. search reduction-holds)
     (λ c κs. search needs)
-    (λ c. search needs)
-    (λ c. search setting-left)
-    (λ c. search needs)
-    (λ c. search needs)
-    (λ c. search (mask-left, c .before .before .before .before .before .mask-turn .ensures))
-    (λ c. search needs)
-    (λ c. search reduction-left))
+    (λ c. ⊎-elim (λ w. search needs) (λ w. search needs) (c .before .match .came))
+    (λ c. ⊎-elim (λ w. search needs) (λ w. search needs) (c .before .match .came))
+    (λ c. ⊎-elim (λ w memory. search (mask-left, w .5 .ensures)) (λ w memory. search reduction-left) (c .before .match .came)))
