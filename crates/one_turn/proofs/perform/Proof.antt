@@ -20,4 +20,9 @@ perform-spec =
     (λ c κs. search needs)
     (λ c. ⊎-elim (λ w. search needs) (λ w. search needs) (c .before .match .came))
     (λ c. ⊎-elim (λ w. search needs) (λ w. search needs) (c .before .match .came))
-    (λ c. ⊎-elim (λ w memory. search (mask-left, w .5 .ensures)) (λ w memory. search reduction-left) (c .before .match .came)))
+    (λ c.
+    let given = c .before .before .before .before .args in
+    ⊎-elim
+    (λ w. mask-left _ _ _ _ _ _ _ _ _ (given .control) _ (w .1 .given .1) (c .with-vstart .ensures) (w .5 .ensures) (w .10) (w .11))
+    (λ w. reduction-left _ _ _ _ _ _ _ _ (given .control) _ (w .1 .given .1) (c .with-vstart .ensures) (w .4 .ensures) (w .7) (w .8))
+    (c .before .match .came)))
