@@ -12,8 +12,8 @@ or access checks
     word vtype vl vstart vxrm vxsat vs INPUT.. : answer element pages page right
 
 An INPUT is xN=HEX, vN=BYTES, pA-B=RIGHT, size=N (of memory), file=N, scalars=N or pages=N; a CHANGE is xN=HEX, vN=BYTES or mA=BYTES. What
-no INPUT names has the values of `scalars`, `registers` and `memory` below. The program prints each changed byte or scalar by itself, so
-that what is written does not depend on how a vector groups its changes.
+no INPUT names has the values of `scalars`, `registers` and `memory` below. The program prints the bytes that differ, and so
+does this one: what is written does not depend on how a vector groups its changes.
 """
 import sys
 
@@ -28,6 +28,11 @@ def memory(size):
 
 def cut(values, n):
     return (values + [0] * n)[:n]
+
+# the changed bytes: those that follow one another are one item, with the index of the first
+def runs(label, before, after):
+    changed = [k for k, (old, new) in enumerate(zip(before, after)) if old != new]
+    return ''.join(('' if k - 1 in changed[max(n - 1, 0):n] else ' %s%x=' % (label, k)) + '%02x' % after[k] for n, k in enumerate(changed))
 
 class Case:
     def __init__(self, line):
@@ -75,10 +80,8 @@ class Case:
                 continue
             data, at = bytes.fromhex(value), 16 * int(key[1:]) if key[0] == 'v' else int(key[1:], 16)
             after[key[0]][at:at + len(data)] = data
-        differing = lambda part, before, shown: ''.join(
-            shown % (k, new) for k, (old, new) in enumerate(zip(before, after[part])) if old != new)
-        return (' '.join(self.answer) + differing('v', file, ' v%x=%02x') + differing('x', x, ' x%d=%x')
-                + differing('m', mem, ' m%x=%02x'))
+        scalars_after = ''.join(' x%d=%x' % (k, new) for k, (old, new) in enumerate(zip(x, after['x'])) if old != new)
+        return (' '.join(self.answer) + runs('v', file, after['v']) + scalars_after + runs('m', mem, after['m']))
 
 def main():
     cases = [Case(line) for name in sys.argv[2:] for line in open(name) if line.strip() and line[0] != '#']

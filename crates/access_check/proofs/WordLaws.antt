@@ -35,6 +35,7 @@ use Rattle.refusal.specs.Refusal.{refusalOf}
 use Rattle.plan.specs.declared.Action.{Action}
 use Rattle.plan.specs.declared.Action.the-variants as A
 use Rattle.plan.specs.declared.Compute.{Compute}
+use Rattle.plan.specs.declared.Permute.{Permute}
 use Rattle.plan.specs.declared.Transfer.{Transfer}
 use Rattle.plan.specs.declared.Elementwise.{Elementwise}
 use Rattle.plan.specs.declared.OneTurn.{OneTurn}
@@ -59,8 +60,11 @@ use Rattle.access_check.proofs.CheckLaws.{Stepping, refused-check, ille
 
 -- ---- the action of a plan
 
-pub no-transfer : (a : Action) (k : Compute) (t : Transfer) → a ≡ A.Compute k → a ≡ A.Transfer t → ⊥
-no-transfer a k t e f = let z : _≡_ {A = ℕ} 0 1 = cc in omega arith
+pub computes-not : (a : Action) (k : Compute) (t : Transfer) → a ≡ A.Compute k → a ≡ A.Transfer t → ⊥
+computes-not a k t e f = let z : _≡_ {A = ℕ} 0 1 = cc in omega arith
+
+pub permutes-not : (a : Action) (p : Permute) (t : Transfer) → a ≡ A.Permute p → a ≡ A.Transfer t → ⊥
+permutes-not a p t e f = let z : _≡_ {A = ℕ} 0 1 = cc in omega arith
 
 pub one-transfer : (a : Action) (t u : Transfer) → a ≡ A.Transfer t → a ≡ A.Transfer u → t ≡ u
 one-transfer a t u e f = cc
@@ -157,6 +161,9 @@ module _ (b : Board) (x : List ℕ) (c : Control) (w : Valid b) (t : Possible b 
   plan-unit (I.Setting s) f h = absurd (subst T (sym h) tt)
   plan-unit (I.Mask m) f h = absurd (subst T (sym h) tt)
   plan-unit (I.Reduction a) f h = absurd (subst T (sym h) tt)
+  plan-unit (I.Permutation a) f h = absurd (subst T (sym h) tt)
+  plan-unit (I.Pack a) f h = absurd (subst T (sym h) tt)
+  plan-unit (I.ScalarMove a) f h = absurd (subst T (sym h) tt)
   plan-unit (I.Arithmetic a) f h = absurd (subst T (sym h) tt)
   plan-unit (I.Memory a) f h = mode-unit a f (a .mode) (f .mode) h
 

@@ -41,6 +41,9 @@ isUnitStride I.Illegal = false
 isUnitStride (I.Arithmetic a) = false
 isUnitStride (I.Mask m) = false
 isUnitStride (I.Reduction a) = false
+isUnitStride (I.Permutation a) = false
+isUnitStride (I.Pack a) = false
+isUnitStride (I.ScalarMove a) = false
 isUnitStride (I.Setting t) = false
 isUnitStride (I.Memory a) = unitStrideMode (a .mode) (a .nf)
 
@@ -58,6 +61,7 @@ module _ (b : Board) (s : State) (o : Outcome) where
   -- it is no unit-stride access
   unfoldable pub pagesTested : Elementwise → Action → ℕ
   pagesTested e (A.Compute k) = 0
+  pagesTested e (A.Permute p) = 0
   pagesTested e (A.Transfer t) =
       differentPages (activeOf (b .vlenb) (s .registers) (e .masked)) (λ (i : ℕ). pageOf (elementAddress t i 0)) (s .control .vstart)
       (o .passed + flag (faultyTested t))

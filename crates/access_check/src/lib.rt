@@ -53,6 +53,9 @@ fn is_unit_stride(instruction: Instruction) -> bool
         Instruction::Arithmetic(_) => false,
         Instruction::Mask(_) => false,
         Instruction::Reduction(_) => false,
+        Instruction::Permutation(_) => false,
+        Instruction::Pack(_) => false,
+        Instruction::ScalarMove(_) => false,
         Instruction::Setting(_) => false,
         Instruction::Memory(a) => {
             let mode = a.mode;
@@ -61,7 +64,7 @@ fn is_unit_stride(instruction: Instruction) -> bool
     }
 }
 
-// The elements of a legal plan that remain. One that computes is no access.
+// The elements of a legal plan that remain. One that computes or permutes is no access.
 fn elements(
     board: Board,
     registers: &[u8],
@@ -81,6 +84,7 @@ fn elements(
     let action = e.action;
     match action {
         Action::Compute(_) => nothing_tested(Answer::Illegal),
+        Action::Permute(_) => nothing_tested(Answer::Illegal),
         Action::Transfer(t) => unit_stride::tested(
             board,
             registers,

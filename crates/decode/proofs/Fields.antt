@@ -19,8 +19,10 @@ use Rattle.decode.specs.declared.Instruction.{Instruction}
 use Rattle.decode.specs.declared.Instruction.the-variants as I
 use Rattle.decode.specs.declared.Entry.{Entry}
 use Rattle.decode.specs.declared.Entry.the-variants.{Reserved, Operation, OnMask, Reduces, MergeOrMove, Vxunary0, Vwxunary0, Vmunary0}
-use Rattle.decode.specs.declared.Entry.the-variants.{Setting}
-use Rattle.decode.specs.Word.{funct3, funct6, rs2, vm, masked, vmFits, sourceOf, resolvedOf, namedOf, arithmeticOf}
+use Rattle.decode.specs.declared.Entry.the-variants.{Permutes, Packs, MovesScalar, Setting}
+use Rattle.decode.specs.declared.ScalarMoveOp.{ScalarMoveOp}
+use Rattle.decode.specs.declared.ScalarMoveOp.the-variants.{VmvXS, VmvSX}
+use Rattle.decode.specs.Word.{funct3, funct6, rs2, vm, masked, vmFits, sourceOf, scalarMoveOf, resolvedOf, namedOf, arithmeticOf}
 use Rattle.decode.specs.Word.{avlOf, settingOf, widthOf, access, maskOf, wholeCount, wholeOf, unitOf, memoryOf, decodeOf}
 use Rattle.decode.specs.Listing.{Row, listing, find, keep, inColumn, entryOf}
 use Rattle.decode.specs.Fields.{SourceFits, SizeFits, AvlFits, ModeFits, Fits}
@@ -75,6 +77,9 @@ takesNumber Reserved = true
 takesNumber (Operation op) = isSingle (shapeOf op .vs1)
 takesNumber (OnMask op) = true
 takesNumber (Reduces op) = true
+takesNumber (Permutes op) = true
+takesNumber (Packs op) = true
+takesNumber (MovesScalar op) = true
 takesNumber MergeOrMove = true
 takesNumber Vxunary0 = false
 takesNumber Vwxunary0 = false
@@ -112,6 +117,9 @@ resolved Reserved w h = h
 resolved (Operation op) w h = h
 resolved (OnMask op) w h = h
 resolved (Reduces op) w h = h
+resolved (Permutes op) w h = h
+resolved (Packs op) w h = h
+resolved (MovesScalar op) w h = h
 resolved MergeOrMove w h =
     let P : Entry → Type 0 = λ e. takesNumber e ≡ true in
     either P (masked w) _ _ (λ t. refl) (λ t. either P (eqb (rs2 w) 0) (Operation Vmv) Reserved (λ t. refl) (λ t. refl))
@@ -126,6 +134,10 @@ source-sized z w f =
     either (SizeFits z) (eqb (funct3 w) 3) _ _ (λ t. f (or-left (eqb (funct3 w) 3) _ t))
     (λ n. either (SizeFits z) (eqb (funct3 w) 4 || eqb (funct3 w) 6) _ _ (λ t. f (or-right (eqb (funct3 w) 3) _ n t)) (λ t. tt))
 
+move-fits : (op : ScalarMoveOp) (w : ℕ) → Fits (scalarMoveOf op w)
+move-fits VmvXS w = search (either Fits, five-bits)
+move-fits VmvSX w = search (either Fits, five-bits)
+
 named-fits : (e : Entry) (w : ℕ) → (ofNumber (funct3 w) ≡ true → takesNumber e ≡ true) → Fits (namedOf e w)
 named-fits Reserved w f = tt
 named-fits (Operation op) w f =
@@ -139,6 +151,9 @@ named-fits (Operation op) w f =
     (λ t. tt)
 named-fits (OnMask op) w f = search five-bits
 named-fits (Reduces op) w f = search five-bits
+named-fits (Permutes op) w f = search (either Fits, five-bits, source-fits)
+named-fits (Packs op) w f = search (either Fits, five-bits)
+named-fits (MovesScalar op) w f = move-fits op w
 named-fits MergeOrMove w f = tt
 named-fits Vxunary0 w f = tt
 named-fits Vwxunary0 w f = tt

@@ -18,6 +18,9 @@ use Rattle.decode.specs.declared.Mode.the-variants as M
 use Rattle.decode.specs.declared.Arithmetic.{Arithmetic}
 use Rattle.decode.specs.declared.MaskInstruction.{MaskInstruction}
 use Rattle.decode.specs.declared.ReductionInstruction.{ReductionInstruction}
+use Rattle.decode.specs.declared.PermutationInstruction.{PermutationInstruction}
+use Rattle.decode.specs.declared.PackInstruction.{PackInstruction}
+use Rattle.decode.specs.declared.ScalarMoveInstruction.{ScalarMoveInstruction}
 use Rattle.decode.specs.declared.Setting.{Setting}
 use Rattle.decode.specs.declared.Access.{Access}
 use Rattle.decode.specs.declared.Instruction.{Instruction}
@@ -48,6 +51,20 @@ pub record ReductionFits (r : ReductionInstruction) : Type 0 where
   pub vd : r .vd < 32
   pub vs2 : r .vs2 < 32
   pub vs1 : r .vs1 < 32
+
+pub record PermutationFits (p : PermutationInstruction) : Type 0 where
+  pub vd : p .vd < 32
+  pub vs2 : p .vs2 < 32
+  pub source : SourceFits (p .source)
+
+pub record PackFits (p : PackInstruction) : Type 0 where
+  pub vd : p .vd < 32
+  pub vs2 : p .vs2 < 32
+  pub vs1 : p .vs1 < 32
+
+pub record ScalarMoveFits (m : ScalarMoveInstruction) : Type 0 where
+  pub vector : m .vector < 32
+  pub scalar : m .scalar < 32
 
 abbrev pub AvlFits : AvlSource → Type 0
 AvlFits (Register r) = r < 32
@@ -82,5 +99,8 @@ Fits I.Illegal = Unit {0}
 Fits (I.Arithmetic a) = ArithmeticFits a
 Fits (I.Mask m) = MaskFits m
 Fits (I.Reduction r) = ReductionFits r
+Fits (I.Permutation p) = PermutationFits p
+Fits (I.Pack p) = PackFits p
+Fits (I.ScalarMove m) = ScalarMoveFits m
 Fits (I.Setting s) = SettingFits s
 Fits (I.Memory a) = AccessFits a

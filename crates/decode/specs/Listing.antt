@@ -15,9 +15,13 @@ use Rattle.operation.specs.declared.Op.the-variants.{Vmand, Vmnand, Vmandn, Vmx
 use Rattle.decode.specs.declared.MaskOp.the-variants.{Vcpop, Vfirst, Vmsbf, Vmsof, Vmsif}
 use Rattle.decode.specs.declared.ReductionOp.the-variants.{Vredsum, Vredand, Vredor, Vredxor, Vredminu, Vredmin, Vredmaxu, Vredmax}
 use Rattle.decode.specs.declared.ReductionOp.the-variants.{Vwredsumu, Vwredsum}
+use Rattle.decode.specs.declared.PermutationOp.the-variants.{Vid, Vslideup, Vslidedown, Vslide1up, Vslide1down}
+use Rattle.decode.specs.declared.PermutationOp.the-variants.{Vrgather, Vrgatherei16}
+use Rattle.decode.specs.declared.PackOp.the-variants.{Viota, Vcompress}
+use Rattle.decode.specs.declared.ScalarMoveOp.the-variants.{VmvXS, VmvSX}
 use Rattle.decode.specs.declared.Entry.{Entry}
 use Rattle.decode.specs.declared.Entry.the-variants.{Reserved, Operation, OnMask, Reduces, MergeOrMove, Vxunary0, Vwxunary0, Vmunary0}
-use Rattle.decode.specs.declared.Entry.the-variants.{Setting}
+use Rattle.decode.specs.declared.Entry.the-variants.{Permutes, Packs, MovesScalar, Setting}
 
 -- the columns that an operation is listed in, by funct3; its number, funct6; what the word names
 pub record Row : Type 0 where
@@ -62,6 +66,10 @@ listing =
     row vxi 0b001001 (Operation Vand) ∷
     row vxi 0b001010 (Operation Vor) ∷
     row vxi 0b001011 (Operation Vxor) ∷
+    row vxi 0b001100 (Permutes Vrgather) ∷
+    row vv 0b001110 (Permutes Vrgatherei16) ∷
+    row xi 0b001110 (Permutes Vslideup) ∷
+    row xi 0b001111 (Permutes Vslidedown) ∷
     row vxi 0b010000 (Operation Vadc) ∷
     row vxi 0b010001 (Operation Vmadc) ∷
     row vx 0b010010 (Operation Vsbc) ∷
@@ -103,9 +111,13 @@ listing =
     row mvx 0b001001 (Operation Vaadd) ∷
     row mvx 0b001010 (Operation Vasubu) ∷
     row mvx 0b001011 (Operation Vasub) ∷
+    row mx 0b001110 (Permutes Vslide1up) ∷
+    row mx 0b001111 (Permutes Vslide1down) ∷
     row mv 0b010000 Vwxunary0 ∷
+    row mx 0b010000 (MovesScalar VmvSX) ∷
     row mv 0b010010 Vxunary0 ∷
     row mv 0b010100 Vmunary0 ∷
+    row mv 0b010111 (Packs Vcompress) ∷
     row mv 0b011000 (Operation Vmandn) ∷
     row mv 0b011001 (Operation Vmand) ∷
     row mv 0b011010 (Operation Vmor) ∷
@@ -156,6 +168,7 @@ vxunary0 =
 
 unfoldable pub vwxunary0 : List Row
 vwxunary0 =
+    row mv 0b00000 (MovesScalar VmvXS) ∷
     row mv 0b10000 (OnMask Vcpop) ∷
     row mv 0b10001 (OnMask Vfirst) ∷
     []
@@ -165,6 +178,8 @@ vmunary0 =
     row mv 0b00001 (OnMask Vmsbf) ∷
     row mv 0b00010 (OnMask Vmsof) ∷
     row mv 0b00011 (OnMask Vmsif) ∷
+    row mv 0b10000 (Packs Viota) ∷
+    row mv 0b10001 (Permutes Vid) ∷
     []
 
 -- whether a row stands in a column

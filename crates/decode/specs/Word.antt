@@ -15,11 +15,18 @@ use Rattle.decode.specs.declared.TypeSource.{TypeSource}
 use Rattle.decode.specs.declared.TypeSource.the-variants.{Given, InRegister}
 use Rattle.decode.specs.declared.Mode.{Mode}
 use Rattle.decode.specs.declared.Mode.the-variants.{UnitStride, Strided, Indexed, MaskBytes, Whole}
+use Rattle.decode.specs.declared.PermutationOp.{PermutationOp}
+use Rattle.decode.specs.declared.PermutationOp.the-variants.{Vid, Vslideup, Vslidedown, Vslide1up, Vslide1down}
+use Rattle.decode.specs.declared.PermutationOp.the-variants.{Vrgather, Vrgatherei16}
+use Rattle.decode.specs.declared.PackOp.{PackOp}
+use Rattle.decode.specs.declared.PackOp.the-variants.{Viota, Vcompress}
+use Rattle.decode.specs.declared.ScalarMoveOp.{ScalarMoveOp}
+use Rattle.decode.specs.declared.ScalarMoveOp.the-variants.{VmvXS, VmvSX}
 use Rattle.decode.specs.declared.Instruction.{Instruction}
 use Rattle.decode.specs.declared.Instruction.the-variants as I
 use Rattle.decode.specs.declared.Entry.{Entry}
 use Rattle.decode.specs.declared.Entry.the-variants.{Reserved, Operation, OnMask, Reduces, MergeOrMove, Vxunary0, Vwxunary0, Vmunary0}
-use Rattle.decode.specs.declared.Entry.the-variants.{Setting}
+use Rattle.decode.specs.declared.Entry.the-variants.{Permutes, Packs, MovesScalar, Setting}
 use Rattle.decode.specs.Listing.{vxunary0, vwxunary0, vmunary0, find, entryOf}
 
 -- ---- the fields of a word
@@ -85,6 +92,9 @@ resolvedOf Reserved w = Reserved
 resolvedOf (Operation op) w = Operation op
 resolvedOf (OnMask op) w = OnMask op
 resolvedOf (Reduces op) w = Reduces op
+resolvedOf (Permutes op) w = Permutes op
+resolvedOf (Packs op) w = Packs op
+resolvedOf (MovesScalar op) w = MovesScalar op
 resolvedOf MergeOrMove w = cond (masked w) (Operation Vmerge) (cond (eqb (rs2 w) 0) (Operation Vmv) Reserved)
 resolvedOf Vxunary0 w = find vxunary0 (rs1 w)
 resolvedOf Vwxunary0 w = find vwxunary0 (rs1 w)
@@ -97,6 +107,40 @@ operationOf op w =
     cond (vmFits (shapeOf op .v0) (vm w))
     (I.Arithmetic (record { op = op; vd = rd w; vs2 = rs2 w; source = sourceOf w; masked = masked w }))
     I.Illegal
+
+-- ---- permutations
+
+-- "The vs2 field of the instruction must be set to v0, otherwise the encoding is reserved" (section 16.9); the others take every field
+abbrev pub vs2Fits : PermutationOp → ℕ → Bool
+vs2Fits Vid vs2 = eqb vs2 0
+vs2Fits Vslideup vs2 = true
+vs2Fits Vslidedown vs2 = true
+vs2Fits Vslide1up vs2 = true
+vs2Fits Vslide1down vs2 = true
+vs2Fits Vrgather vs2 = true
+vs2Fits Vrgatherei16 vs2 = true
+
+abbrev pub permutationOf : PermutationOp → ℕ → Instruction
+permutationOf op w =
+    cond (vs2Fits op (rs2 w))
+    (I.Permutation (record { op = op; vd = rd w; vs2 = rs2 w; source = sourceOf w; masked = masked w }))
+    I.Illegal
+
+-- "vcompress is encoded as an unmasked instruction (vm=1). The equivalent masked instruction (vm=0) is reserved" (section 17.5)
+abbrev pub packVmFits : PackOp → ℕ → Bool
+packVmFits Viota vm = true
+packVmFits Vcompress vm = eqb vm 1
+
+abbrev pub packOf : PackOp → ℕ → Instruction
+packOf op w =
+    cond (packVmFits op (vm w)) (I.Pack (record { op = op; vd = rd w; vs2 = rs2 w; vs1 = rs1 w; masked = masked w })) I.Illegal
+
+-- vmv.x.s rd, vs2 and vmv.s.x vd, rs1 with vs2=0; "the masked versions (vm=0) .. are reserved" (section 17.1)
+abbrev pub scalarMoveOf : ScalarMoveOp → ℕ → Instruction
+scalarMoveOf VmvXS w = cond (masked w) I.Illegal (I.ScalarMove (record { op = VmvXS; vector = rs2 w; scalar = rd w }))
+scalarMoveOf VmvSX w =
+    cond (masked w) I.Illegal
+    (cond (eqb (rs2 w) 0) (I.ScalarMove (record { op = VmvSX; vector = rd w; scalar = rs1 w })) I.Illegal)
 
 -- ---- setting instructions (section 7)
 
@@ -122,6 +166,9 @@ abbrev pub namedOf : Entry → ℕ → Instruction
 namedOf (Operation op) w = operationOf op w
 namedOf (OnMask op) w = I.Mask (record { op = op; rd = rd w; vs2 = rs2 w; masked = masked w })
 namedOf (Reduces op) w = I.Reduction (record { op = op; vd = rd w; vs2 = rs2 w; vs1 = rs1 w; masked = masked w })
+namedOf (Permutes op) w = permutationOf op w
+namedOf (Packs op) w = packOf op w
+namedOf (MovesScalar op) w = scalarMoveOf op w
 namedOf Setting w = settingOf w
 namedOf Reserved w = I.Illegal
 namedOf MergeOrMove w = I.Illegal

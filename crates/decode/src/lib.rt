@@ -1,10 +1,13 @@
 // Decode of every 32-bit word: the listing of section 20 of document 000, the setting forms of section 7 and the memory encodings of
 // section 8. What a word names is here; whether it is legal at a vtype is not.
 ghost use mathlib.Core.Path.{_≡_};
+ghost use Prim.Native.Nat.{_<_};
 ghost use Rattle.decode.specs.declared.Entry.the-variants.{MergeOrMove};
+ghost use Rattle.decode.specs.declared.Instruction.the-variants as Ins;
 ghost use Rattle.decode.specs.Listing.{vxunary0, vwxunary0, vmunary0, find, entryOf};
 ghost use Rattle.decode.specs.Word.{opcode, rd, funct3, rs1, rs2, vm, funct6, mop, mew, nf, masked};
-ghost use Rattle.decode.specs.Word.{vmFits, sourceOf, resolvedOf, operationOf, namedOf, arithmeticOf, avlOf, settingBy, settingOf};
+ghost use Rattle.decode.specs.Word.{vmFits, sourceOf, resolvedOf, operationOf, namedOf, arithmeticOf};
+ghost use Rattle.decode.specs.Word.{vs2Fits, permutationOf, packVmFits, packOf, scalarMoveOf, avlOf, settingBy, settingOf};
 ghost use Rattle.decode.specs.Word.{widthOf, access, segmentOf, maskOf, wholeCount, wholeOf, unitOf, memoryOf, decodeOf};
 use operation::Op;
 use operation::V0;
@@ -64,6 +67,53 @@ pub struct ReductionInstruction {
     pub masked: bool,
 }
 
+// Permutations that go element by element (sections 16.9, 17.3 and 17.4).
+pub enum PermutationOp {
+    Vid,
+    Vslideup,
+    Vslidedown,
+    Vslide1up,
+    Vslide1down,
+    Vrgather,
+    Vrgatherei16,
+}
+
+pub struct PermutationInstruction {
+    pub op: PermutationOp,
+    pub vd: usize,
+    pub vs2: usize,
+    pub source: Source,
+    pub masked: bool,
+}
+
+// Those that count the set bits of a mask and take one turn (sections 16.8 and 17.5).
+pub enum PackOp {
+    Viota,
+    Vcompress,
+}
+
+pub struct PackInstruction {
+    pub op: PackOp,
+    pub vd: usize,
+    pub vs2: usize,
+    pub vs1: usize,
+    pub masked: bool,
+}
+
+// Integer scalar moves (section 17.1): vmv.x.s and vmv.s.x.
+pub enum ScalarMoveOp {
+    VmvXS,
+    VmvSX,
+}
+
+pub struct ScalarMoveInstruction {
+    pub op: ScalarMoveOp,
+    // vs2 of vmv.x.s, vd of vmv.s.x
+    pub vector: usize,
+    // rd of vmv.x.s, rs1 of vmv.s.x
+    pub scalar: usize,
+}
+
 // Where AVL comes from (section 7.2).
 pub enum AvlSource {
     Register(usize),
@@ -113,6 +163,9 @@ pub enum Instruction {
     Arithmetic(Arithmetic),
     Mask(MaskInstruction),
     Reduction(ReductionInstruction),
+    Permutation(PermutationInstruction),
+    Pack(PackInstruction),
+    ScalarMove(ScalarMoveInstruction),
     Setting(Setting),
     Memory(Access),
 }
@@ -123,6 +176,9 @@ pub enum Entry {
     Operation(Op),
     OnMask(MaskOp),
     Reduces(ReductionOp),
+    Permutes(PermutationOp),
+    Packs(PackOp),
+    MovesScalar(ScalarMoveOp),
     // vmerge, or vmv with vm 1
     MergeOrMove,
     // further tables, by the vs1 field
@@ -225,6 +281,9 @@ fn opivx(funct6: u32) -> Entry
         0b001001 => Entry::Operation(Op::Vand),
         0b001010 => Entry::Operation(Op::Vor),
         0b001011 => Entry::Operation(Op::Vxor),
+        0b001100 => Entry::Permutes(PermutationOp::Vrgather),
+        0b001110 => Entry::Permutes(PermutationOp::Vslideup),
+        0b001111 => Entry::Permutes(PermutationOp::Vslidedown),
         0b010000 => Entry::Operation(Op::Vadc),
         0b010001 => Entry::Operation(Op::Vmadc),
         0b010010 => Entry::Operation(Op::Vsbc),
@@ -275,6 +334,7 @@ fn opmvv(funct6: u32) -> Entry
         0b010000 => Entry::Vwxunary0,
         0b010010 => Entry::Vxunary0,
         0b010100 => Entry::Vmunary0,
+        0b010111 => Entry::Packs(PackOp::Vcompress),
         0b011000 => Entry::Operation(Op::Vmandn),
         0b011001 => Entry::Operation(Op::Vmand),
         0b011010 => Entry::Operation(Op::Vmor),
@@ -313,12 +373,14 @@ fn opmvv(funct6: u32) -> Entry
     }
 }
 
-// OPIVV and OPIVI are OPIVX less some rows; OPIVV has two of its own.
+// OPIVV and OPIVI are OPIVX less some rows; OPIVV has three of its own.
 fn opivv(funct6: u32) -> Entry
     ensures { λ r. ⌜ r ≡ entryOf 0b000 funct6 ⌝ }
 {
     match funct6 {
         0b000011 => Entry::Reserved,
+        0b001110 => Entry::Permutes(PermutationOp::Vrgatherei16),
+        0b001111 => Entry::Reserved,
         0b011110..=0b011111 => Entry::Reserved,
         0b110000 => Entry::Reduces(ReductionOp::Vwredsumu),
         0b110001 => Entry::Reduces(ReductionOp::Vwredsum),
@@ -340,16 +402,18 @@ fn opivi(funct6: u32) -> Entry
     }
 }
 
-// OPMVX is OPMVV less the rows that have no scalar, and with one of its own.
+// OPMVX is OPMVV less the rows that have no scalar, and with four of its own.
 fn opmvx(funct6: u32) -> Entry
     ensures { λ r. ⌜ r ≡ entryOf 0b110 funct6 ⌝ }
 {
     match funct6 {
         0b000000..=0b000111 => Entry::Reserved,
-        0b010000 => Entry::Reserved,
+        0b001110 => Entry::Permutes(PermutationOp::Vslide1up),
+        0b001111 => Entry::Permutes(PermutationOp::Vslide1down),
+        0b010000 => Entry::MovesScalar(ScalarMoveOp::VmvSX),
         0b010010 => Entry::Reserved,
         0b010100 => Entry::Reserved,
-        0b011000..=0b011111 => Entry::Reserved,
+        0b010111..=0b011111 => Entry::Reserved,
         0b111110 => Entry::Operation(Op::Vwmaccus),
         _ => opmvv(funct6),
     }
@@ -389,19 +453,22 @@ fn to_scalar(vs1: u32) -> Entry
     ensures { λ r. ⌜ r ≡ find vwxunary0 vs1 ⌝ }
 {
     match vs1 {
+        0b00000 => Entry::MovesScalar(ScalarMoveOp::VmvXS),
         0b10000 => Entry::OnMask(MaskOp::Vcpop),
         0b10001 => Entry::OnMask(MaskOp::Vfirst),
         _ => Entry::Reserved,
     }
 }
 
-fn set_first(vs1: u32) -> Entry
+fn on_mask(vs1: u32) -> Entry
     ensures { λ r. ⌜ r ≡ find vmunary0 vs1 ⌝ }
 {
     match vs1 {
         0b00001 => Entry::OnMask(MaskOp::Vmsbf),
         0b00010 => Entry::OnMask(MaskOp::Vmsof),
         0b00011 => Entry::OnMask(MaskOp::Vmsif),
+        0b10000 => Entry::Packs(PackOp::Viota),
+        0b10001 => Entry::Permutes(PermutationOp::Vid),
         _ => Entry::Reserved,
     }
 }
@@ -429,11 +496,14 @@ fn resolved(entry: Entry, word: u32) -> Entry
         Entry::MergeOrMove => merge_or_move(word),
         Entry::Vxunary0 => extension(rs1(word)),
         Entry::Vwxunary0 => to_scalar(rs1(word)),
-        Entry::Vmunary0 => set_first(rs1(word)),
+        Entry::Vmunary0 => on_mask(rs1(word)),
         Entry::Reserved => entry,
         Entry::Operation(_) => entry,
         Entry::OnMask(_) => entry,
         Entry::Reduces(_) => entry,
+        Entry::Permutes(_) => entry,
+        Entry::Packs(_) => entry,
+        Entry::MovesScalar(_) => entry,
         Entry::Setting => entry,
     }
 }
@@ -480,6 +550,96 @@ fn operation_of(op: Op, word: u32) -> Instruction
         });
     }
     Instruction::Illegal
+}
+
+// ---- permutations
+
+// The vs2 fields that a permutation has: that of vid.v is 0.
+fn vs2_fits(op: PermutationOp, vs2: u32) -> bool
+    ensures { λ r. ⌜ r ≡ vs2Fits op vs2 ⌝ }
+{
+    match op {
+        PermutationOp::Vid => vs2 == 0,
+        PermutationOp::Vslideup => true,
+        PermutationOp::Vslidedown => true,
+        PermutationOp::Vslide1up => true,
+        PermutationOp::Vslide1down => true,
+        PermutationOp::Vrgather => true,
+        PermutationOp::Vrgatherei16 => true,
+    }
+}
+
+fn permutation_of(op: PermutationOp, word: u32) -> Instruction
+    ensures { λ r. ⌜ r ≡ permutationOf op word ⌝ }
+{
+    let vs2 = rs2(word);
+    if vs2_fits(op, vs2) {
+        let source = source_of(word);
+        return Instruction::Permutation(PermutationInstruction {
+            op,
+            vd: rd(word) as usize,
+            vs2: vs2 as usize,
+            source,
+            masked: masked(word),
+        });
+    }
+    Instruction::Illegal
+}
+
+// The vm bits of viota.m, and of vcompress.vm, which is never masked.
+fn pack_vm_fits(op: PackOp, vm: u32) -> bool
+    ensures { λ r. ⌜ r ≡ packVmFits op vm ⌝ }
+{
+    match op {
+        PackOp::Viota => true,
+        PackOp::Vcompress => vm == 1,
+    }
+}
+
+fn pack_of(op: PackOp, word: u32) -> Instruction
+    ensures { λ r. ⌜ r ≡ packOf op word ⌝ }
+{
+    let vm = vm(word);
+    if pack_vm_fits(op, vm) {
+        return Instruction::Pack(PackInstruction {
+            op,
+            vd: rd(word) as usize,
+            vs2: rs2(word) as usize,
+            vs1: rs1(word) as usize,
+            masked: vm == 0,
+        });
+    }
+    Instruction::Illegal
+}
+
+fn move_by(op: ScalarMoveOp, vector: u32, scalar: u32) -> Instruction
+    requires { ⌜ (vector < 32) × (scalar < 32) ⌝ }
+    ensures { λ r. ⌜ r ≡ Ins.ScalarMove (record { op = op; vector = vector; scalar = scalar }) ⌝ }
+{
+    Instruction::ScalarMove(ScalarMoveInstruction {
+        op,
+        vector: vector as usize,
+        scalar: scalar as usize,
+    })
+}
+
+// Unmasked; vs2 of vmv.s.x is 0. (vs1 of vmv.x.s is 0 by the table that names it.)
+fn scalar_move_of(op: ScalarMoveOp, word: u32) -> Instruction
+    ensures { λ r. ⌜ r ≡ scalarMoveOf op word ⌝ }
+{
+    if masked(word) {
+        return Instruction::Illegal;
+    }
+    let vs2 = rs2(word);
+    match op {
+        ScalarMoveOp::VmvXS => move_by(op, vs2, rd(word)),
+        ScalarMoveOp::VmvSX => {
+            if vs2 != 0 {
+                return Instruction::Illegal;
+            }
+            move_by(op, rd(word), rs1(word))
+        }
+    }
 }
 
 // ---- setting instructions
@@ -556,6 +716,9 @@ fn named(entry: Entry, word: u32) -> Instruction
             vs1: rs1(word) as usize,
             masked: masked(word),
         }),
+        Entry::Permutes(op) => permutation_of(op, word),
+        Entry::Packs(op) => pack_of(op, word),
+        Entry::MovesScalar(op) => scalar_move_of(op, word),
         Entry::Setting => setting_of(word),
         Entry::Reserved => Instruction::Illegal,
         Entry::MergeOrMove => Instruction::Illegal,

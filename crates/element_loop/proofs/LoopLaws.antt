@@ -26,6 +26,7 @@ use Rattle.access.specs.declared.AccessTest.the-variants.{Granted, Faulted}
 use Rattle.access.specs.Access.{nowhere}
 use Rattle.plan.specs.declared.Action.the-variants as A
 use Rattle.plan.specs.declared.Compute.{Compute}
+use Rattle.plan.specs.declared.Permute.{Permute}
 use Rattle.plan.specs.declared.Transfer.{Transfer}
 use Rattle.plan.specs.declared.Elementwise.{Elementwise}
 use Rattle.plan.specs.declared.Plan.{Plan}
@@ -42,7 +43,7 @@ use Rattle.machine.specs.Effect.{Write, saturating, effectOf}
 use Rattle.machine.specs.Machine.{semanticsOf, outcomeOf, planTurn}
 use Rattle.machine.proofs.PlanFacts.{PlanSound, plan-sound}
 use Rattle.machine.proofs.Lawful.{Facts, facts, elements-fit, lawful}
-use Rattle.execute.specs.Step.{Ready, OperandsFit, ActionFits, coreAt, checkOf, stateAfter, Did}
+use Rattle.execute.specs.Step.{Ready, OperandsFit, Permutable, ActionFits, coreAt, checkOf, stateAfter, Did}
 use Rattle.element_loop.specs.Runnable.{Runnable}
 use Rattle.element_loop.proofs.Readiness.{Prepared, prepared}
 
@@ -195,6 +196,13 @@ module _ (b : Board) (e : Elementwise) (registers₀ scalars memory₀ rights : 
           subst (ActionFits (b .vlenb) registers e (c .vstart + k)) q
           (next-prepared (c .vstart + k) (omega arith) .action registers (g .bytes))
 
+      pub next-permutable : (x remaining most : ℕ) (p : Permute) → remaining ≡ e .end - c .vstart → most ≡ min x remaining → k < most
+          → e .action ≡ A.Permute p → Permutable (length registers) (b .vlenb) e p (c .vstart + k)
+      unfolding ActionFits
+      next-permutable x remaining most p u v h q =
+          rw file-length (subst (ActionFits (b .vlenb) registers e (c .vstart + k)) q
+          (next-prepared (c .vstart + k) (omega arith) .action registers (g .bytes)))
+
       pub next-bytes : (x remaining most : ℕ) (t : Transfer) → remaining ≡ e .end - c .vstart → most ≡ min x remaining → k < most
           → e .action ≡ A.Transfer t → T (byteSize (t .bytes))
       unfolding ActionFits
@@ -267,6 +275,16 @@ module _ (b : Board) (e : Elementwise) (registers₀ scalars memory₀ rights : 
       computed-more remaining most saturates registers′ vxsat′ u v h did q y m =
           rw q (going-more remaining most registers′ memory (cond saturates 1 vxsat) u v h (did rights memory scalars (besides c 0 vxsat))
           y m refl)
+
+      -- a permutation saturates nothing
+      pub permuted-more : (remaining most : ℕ) (registers′ : List ℕ)
+          → remaining ≡ e .end - c .vstart → most ≡ min allowance remaining → k < most
+          → ((r m y : List ℕ) (d : Control) → Did (b .vlenb) (effectOf b r (coreAt registers m y d) e (c .vstart + k))
+          (coreAt registers m y d) Granted (coreAt registers′ m y d))
+          → Bytes registers′ → length registers′ ≡ length registers
+          → Going (k + 1) registers′ memory vxsat
+      permuted-more remaining most registers′ u v h did y m =
+          going-more remaining most registers′ memory vxsat u v h (did rights memory scalars (besides c 0 vxsat)) y m refl
 
       pub transferred-more : (remaining most : ℕ) (check : AccessTest) (registers′ memory′ : List ℕ)
           → remaining ≡ e .end - c .vstart → most ≡ min allowance remaining → k < most

@@ -17,10 +17,11 @@ use Rattle.control.specs.declared.Board.{Board}
 use Rattle.control.specs.declared.Control.{Control}
 use Rattle.control.specs.Board.{Valid}
 use Rattle.control.specs.Vtype.{sewOf, vlmaxOf}
-use Rattle.control.proofs.Laws.{Possible, sew-ge, vlmax-le}
+use Rattle.control.proofs.Laws.{Possible, sew-ge, supported-sew-le, vlmax-le}
 use Rattle.decode.specs.declared.Instruction.{Instruction}
 use Rattle.decode.specs.declared.Instruction.the-variants as I
 use Rattle.decode.specs.declared.Arithmetic.{Arithmetic}
+use Rattle.decode.specs.declared.PermutationInstruction.{PermutationInstruction}
 use Rattle.decode.specs.declared.Access.{Access}
 use Rattle.decode.specs.declared.Mode.{Mode}
 use Rattle.decode.specs.declared.Mode.the-variants as M
@@ -32,7 +33,7 @@ use Rattle.layout.proofs.WidthLaws.{bytes-size}
 use Rattle.layout.proofs.BytesLaws.{Bytes}
 use Rattle.layout.proofs.ElementLaws.{element-lt}
 use Rattle.group.specs.declared.Group.{Group}
-use Rattle.group.specs.Group.{registersOf, fieldGroup, spanOf, placedOf, mayOverlapOf}
+use Rattle.group.specs.Group.{registersOf, fieldGroup, spanOf, placedOf}
 use Rattle.group.proofs.GroupLaws.{placed-facts, fields-before}
 use Rattle.plan.specs.declared.Read.{Read}
 use Rattle.plan.specs.declared.Read.the-variants as R
@@ -42,13 +43,15 @@ use Rattle.plan.specs.declared.Elementwise.{Elementwise}
 use Rattle.plan.specs.declared.Plan.{Plan}
 use Rattle.plan.specs.declared.Plan.the-variants as P
 use Rattle.plan.specs.Plan.{groupsAt, registerAt, readAt, secondOf, shapedOf, computingOf, movingOf, byMode, planOf}
-use Rattle.legality.specs.Legal.{readFits, writesRegisters, operandsFit, isThere}
+use Rattle.plan.specs.Plan.{permutingOf}
+use Rattle.legality.specs.Legal.{overlapFits, readFits, writesRegisters, isStrict, operandsFit, isThere}
 use Rattle.plan.specs.Range.{ReadInRange, InRange, PlanFits}
 use Rattle.plan.proofs.AccessLaws.{one-of, eew-low}
 use Rattle.plan.proofs.RangeLaws.{plan-range, vs1-constant}
 use Rattle.machine.specs.Effect.{valueOf}
 use Rattle.machine.proofs.Geometry.{placed-extent, inside, bit-inside}
 use Rattle.machine.proofs.PlanFacts.{Operand, constant, bit, element, OfV0, unused, used, Typed, typed-extent, legal-at, computing-typed}
+use Rattle.machine.proofs.PlanFacts.{permuting-typed}
 use Rattle.machine.proofs.PlanFacts.{mode-end, unit-typed, strided-typed, indexed-typed, eew-width}
 use Rattle.execute.specs.Step.{FieldsInside, Ready, ReadInside, ActionFits}
 use Rattle.execute.proofs.StepLaws.{first-inside}
@@ -66,15 +69,16 @@ unfolding ReadInside
 v0-inside vlenb _ k unused l = tt
 v0-inside vlenb _ k used l = bit-inside vlenb 0 k (lit< tt) l
 
-read-inside : (b : Board) (v : ℕ) (e : Elementwise) (writes : Bool) (r : Read) (k : ℕ) → Valid b → Typed b v e → k < vlmaxOf b v
-    → Operand v r → readFits (b .elen) writes (e .dest) r ≡ true
+read-inside : (b : Board) (v : ℕ) (e : Elementwise) (writes strict : Bool) (r : Read) (k : ℕ) → Valid b → Typed b v e → k < vlmaxOf b v
+    → Operand v r → readFits (b .elen) writes strict (e .dest) r ≡ true
     → ReadInRange r → ReadInside (32 * b .vlenb) (b .vlenb) r k
 unfolding ReadInside readFits
-read-inside b v e writes _ k w y l (constant n) t u = tt
-read-inside b v e writes _ k w y l (bit reg) t u = bit-inside (b .vlenb) reg k u (omega (arith, vlmax-le b v))
-read-inside b v e writes _ k w y l (element eew reg nf p z) t u =
+read-inside b v e writes strict _ k w y l (constant n) t u = tt
+read-inside b v e writes strict _ k w y l (bit reg) t u = bit-inside (b .vlenb) reg k u (omega (arith, vlmax-le b v))
+read-inside b v e writes strict _ k w y l (element eew reg nf p z) t u =
     let g : Group = groupsAt v eew reg nf in
-    let x = placed-extent b v w (y .supported) eew p reg nf (both-left (placedOf (b .elen) g) (not writes || mayOverlapOf (e .dest) g) t) in
+    let x = placed-extent b v w (y .supported) eew p reg nf
+    (both-left (placedOf (b .elen) g) (not writes || overlapFits strict (e .dest) g) t) in
     first-inside (32 * b .vlenb) (b .vlenb) g k (each-inside (b .vlenb) (vlmaxOf b v) g k (x .width) (x .within) (x .ends u) l)
 
 typed-ready : (b : Board) (v : ℕ) (e : Elementwise) (k : ℕ) → Valid b → Typed b v e → operandsFit (b .elen) e ≡ true → InRange e
@@ -84,12 +88,15 @@ typed-ready b v e k w y h u l =
     let x = typed-extent b v e w y (f .dest) in
     let most : k < vlmaxOf b v = omega (arith, y .end) in
     let bits : k < 8 * b .vlenb = omega (arith, vlmax-le b v) in
+    let read : (r : Read) → Operand v r → readFits (b .elen) (writesRegisters (e .action)) (isStrict (e .action)) (e .dest) r ≡ true
+    → ReadInRange r → ReadInside (32 * b .vlenb) (b .vlenb) r k =
+    λ r. read-inside b v e (writesRegisters (e .action)) (isStrict (e .action)) r k w y most in
     record {
       dest = each-inside (b .vlenb) (vlmaxOf b v) (e .dest) k (x .width) (x .within) (x .ends (u .dest)) most;
       ends = x .ends (u .dest);
-      vs2 = read-inside b v e (writesRegisters (e .action)) (e .vs2) k w y most (y .vs2) (f .vs2) (u .vs2);
-      vs1 = read-inside b v e (writesRegisters (e .action)) (e .vs1) k w y most (y .vs1) (f .vs1) (u .vs1);
-      vd = read-inside b v e (writesRegisters (e .action)) (e .vd) k w y most (y .vd) (f .vd) (u .vd);
+      vs2 = read (e .vs2) (y .vs2) (f .vs2) (u .vs2);
+      vs1 = read (e .vs1) (y .vs1) (f .vs1) (u .vs1);
+      vd = read (e .vd) (y .vd) (f .vd) (u .vd);
       v0 = v0-inside (b .vlenb) (e .v0) k (y .v0) bits;
       mask = bit-inside (b .vlenb) 0 k (lit< tt) bits;
     }
@@ -186,6 +193,23 @@ computing-fits b x c a y f t file u k =
       v0-fits = v0-lt (b .vlenb) file (computingOf x c a .v0) k u (y .v0);
     }
 
+-- ---- what a permutation reads
+
+permuting-fits : (b : Board) (x : List ℕ) (c : Control) (a : PermutationInstruction) (k : ℕ) → Valid b
+    → Typed b (c .vtype) (permutingOf b x c a) → operandsFit (b .elen) (permutingOf b x c a) ≡ true → InRange (permutingOf b x c a)
+    → k < c .vl → (file : List ℕ) → ActionFits (b .vlenb) file (permutingOf b x c a) k (permutingOf b x c a .action)
+unfolding permutingOf ActionFits
+permuting-fits b x c a k w y h u l file =
+    let e : Elementwise = permutingOf b x c a in
+    let v : ℕ = c .vtype in
+    let f = legal-at (b .elen) e h in
+    record {
+      width = record { some = omega (arith, sew-ge v); most = supported-sew-le b v w (y .supported) };
+      here = omega (arith, y .end);
+      most = omega (arith, vlmax-le b v, w .most);
+      elements = λ j m. read-inside b v e true (isStrict (e .action)) (e .vs2) j w y m (y .vs2) (f .vs2) (u .vs2);
+    }
+
 -- ---- the size of an element that is moved
 
 mode-fits : (b : Board) (x : List ℕ) (c : Control) (a : Access) (m : Mode) (file : List ℕ) (k : ℕ) → AccessFits a
@@ -215,6 +239,15 @@ module _ (b : Board) (x : List ℕ) (c : Control) (w : Valid b) (t : Possible b 
       let y = computing-typed b x c a t (omega arith) in
       record { ready = typed-ready b (c .vtype) (computingOf x c a) k w y h u l; action = λ file z. computing-fits b x c a y f q file z k }
 
+  permuting-prepared : (a : PermutationInstruction) → InRange (permutingOf b x c a) → PlanPrepared b k (P.Elements (permutingOf b x c a))
+  unfolding permutingOf
+  permuting-prepared a u q h l =
+      let y = permuting-typed b x c a t (omega arith) in
+      record {
+        ready = typed-ready b (c .vtype) (permutingOf b x c a) k w y h u l;
+        action = λ file z. permuting-fits b x c a k w y h u l file;
+      }
+
   moving-prepared : (a : Access) → AccessFits a → InRange (byMode b x c a (a .mode))
       → PlanPrepared b k (P.Elements (byMode b x c a (a .mode)))
   moving-prepared a f u q h l =
@@ -227,7 +260,10 @@ module _ (b : Board) (x : List ℕ) (c : Control) (w : Valid b) (t : Possible b 
   every-plan (I.Setting s) f u = tt
   every-plan (I.Mask m) f u = tt
   every-plan (I.Reduction a) f u = tt
+  every-plan (I.Pack a) f u = tt
+  every-plan (I.ScalarMove a) f u = tt
   every-plan (I.Arithmetic a) f u = computing-prepared a f u
+  every-plan (I.Permutation a) f u = permuting-prepared a u
   every-plan (I.Memory a) f u = moving-prepared a f u
 
   pub prepared : (i : Instruction) (e : Elementwise) → Fits i → planOf b x c i ≡ P.Elements e → isThere (e .action) ≡ true

@@ -23,6 +23,7 @@ use machine::Turned;
 use plan::Action;
 use plan::Compute;
 use plan::Elementwise;
+use plan::Permute;
 use plan::Transfer;
 
 // What a turn gives that leaves the control record with another vstart and vxsat: VS is Dirty, also where nothing was passed.
@@ -123,6 +124,39 @@ fn computed(
     stopped(remaining, k, control, vxsat)
 }
 
+// The elements of a legal permutation: likewise.
+fn permuted(
+    board: Board,
+    registers: &mut [u8],
+    scalars: &[u64],
+    memory: &[u8],
+    rights: &[u8],
+    control: Control,
+    allowance: u64,
+    e: Elementwise,
+    p: Permute,
+) -> Turned
+    requires { ⌜
+        Runnable board (given (now registers) (now scalars) (now memory) (now rights) control) e
+        × (e .action ≡ Act.Permute p) ⌝ }
+    ensures { λ r. ⌜
+        left r (now (registers .exit)) (now (scalars .entry)) (now (memory .entry)) (now (rights .entry))
+        ≡ planTurn board (P.Elements e) allowance
+        (given (now (registers .entry)) (now (scalars .entry)) (now (memory .entry)) (now (rights .entry)) control) ⌝ }
+{
+    let vstart = control.vstart;
+    let remaining = control::less(e.end, vstart);
+    let stretch = control::smaller(allowance, remaining);
+    let vxsat = control.vxsat;
+    let mut k: u64 = 0;
+    while k < stretch {
+        let i = (vstart + k) as usize;
+        permutation::element(registers, board, e, p, i);
+        k += 1;
+    }
+    stopped(remaining, k, control, vxsat)
+}
+
 // The elements of a legal load or store: likewise, or those before the first fault.
 fn transferred(
     board: Board,
@@ -187,6 +221,17 @@ pub fn elements(
             allowance,
             e,
             operation,
+        ),
+        Action::Permute(p) => permuted(
+            board,
+            registers,
+            scalars,
+            memory,
+            rights,
+            control,
+            allowance,
+            e,
+            p,
         ),
         Action::Transfer(t) => transferred(
             board,

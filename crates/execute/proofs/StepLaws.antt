@@ -1,12 +1,13 @@
 -- Operands by where they come from, and an element by what it comes to: masked off, faulted, moved field by field, or computed.
 use mathlib.Core.Path.{_≡_, refl, sym, ap, subst, _∙_}
-use mathlib.Core.Bool.{Bool, true, false, not, cond}
+use mathlib.Core.Bool.{Bool, true, false, not, _&&_, cond}
 use mathlib.Core.List.{List, [], _∷_}
 use Prim.Native.Nat.{ℕ, suc, _+_, _-_, _*_, _^_, _≤_, _<_}
 use native.Mathlib.Numerals.{add-one}
 use native.Mathlib.Omega.{arith}
 use native.Mathlib.Nat.{mod-eq-of-lt, mul-le-mul-right}
 use lib.ListN.{length}
+use lib.Dec.{eqb}
 use mir.Syntax.{w64}
 use mir.Val.{Fits}
 use borrow.Author.Tests.{not-true, not-false}
@@ -41,6 +42,10 @@ read-inside size vlenb i read v e h = rw e at h
 
 pub value-of : (vlenb i r : ℕ) (file : List ℕ) (read v : Read) → read ≡ v → r ≡ valueOf vlenb file v i → r ≡ valueOf vlenb file read i
 value-of vlenb i r file read v e p = rw e p
+
+-- a bit that is set where its element is active
+pub set-is : (a b : Bool) (x y : ℕ) → a ≡ b → x ≡ y → (a && eqb x 1) ≡ (b && eqb y 1)
+set-is a b x y p q = rw (p, q)
 
 -- ---- the fields of an element, one after the other
 

@@ -1,9 +1,10 @@
 -- For contracts of inner functions, not to be believed: one element in the code's terms, what it relies on, what it comes to and what it
 -- leaves.
-use Prim.Native.Nat.{ℕ, _+_, _≤_}
+use Prim.Native.Nat.{ℕ, _+_, _*_, _≤_, _<_}
 use mathlib.Core.Path.{_≡_}
 use mathlib.Core.List.{List}
 use lib.Dec.{T}
+use Rattle.width.specs.Width.{Width}
 use Rattle.alu.specs.Element.{Operands}
 use Rattle.control.specs.declared.Control.{Control}
 use Rattle.layout.specs.Layout.{byteSize, Inside}
@@ -14,6 +15,7 @@ use Rattle.plan.specs.declared.Read.the-variants as R
 use Rattle.plan.specs.declared.Action.{Action}
 use Rattle.plan.specs.declared.Action.the-variants as A
 use Rattle.plan.specs.declared.Compute.{Compute}
+use Rattle.plan.specs.declared.Permute.{Permute}
 use Rattle.plan.specs.declared.Elementwise.{Elementwise}
 use Rattle.turn_theory.specs.Turn.{Effect, inactive, fault, write}
 use Rattle.machine.specs.State.{Core}
@@ -51,9 +53,17 @@ abbrev pub OperandsFit : ℕ → List ℕ → Elementwise → Compute → ℕ �
 OperandsFit vlenb file e k i =
     Operands (k .op) (k .sew) (valueOf vlenb file (e .vs2) i) (valueOf vlenb file (e .vs1) i) (valueOf vlenb file (e .v0) i)
 
+-- element i of a permutation: every element of vs2 below VLMAX lies inside, and indices below it are small
+pub record Permutable (size vlenb : ℕ) (e : Elementwise) (p : Permute) (i : ℕ) : Type 0 where
+  pub width : Width (p .sew)
+  pub here : i < p .vlmax
+  pub most : p .vlmax ≤ 128
+  pub elements : (k : ℕ) → k < p .vlmax → ReadInside size vlenb (e .vs2) k
+
 -- so they are, or an element to be moved has a size that there is
 unfoldable pub ActionFits : ℕ → List ℕ → Elementwise → ℕ → Action → Type 0
 ActionFits vlenb file e i (A.Compute k) = OperandsFit vlenb file e k i
+ActionFits vlenb file e i (A.Permute p) = Permutable (32 * vlenb) vlenb e p i
 ActionFits vlenb file e i (A.Transfer t) = T (byteSize (t .bytes))
 
 -- whether an effect is a fault, as the access test says it, and the state that it leaves

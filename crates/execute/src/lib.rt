@@ -12,6 +12,7 @@ ghost use Rattle.access.specs.declared.AccessTest.the-variants.{Granted};
 ghost use Rattle.plan.specs.declared.Action.the-variants as Act;
 ghost use Rattle.machine.specs.Effect.{saturating, putAll, valueOf, activeOf, elementAddress};
 ghost use Rattle.machine.specs.Effect.{eachField, fieldWrite, computing, transferring, effectOf};
+ghost use Rattle.machine.specs.OneTurn.{setAt};
 ghost use Rattle.execute.specs.Step.{ReadInside, FieldsInside, Ready, OperandsFit, coreAt, Did};
 use access::AccessTest;
 use control::Board;
@@ -22,7 +23,7 @@ use plan::Read;
 use plan::Transfer;
 
 // An operand's element.
-fn value(registers: &[u8], vlenb: usize, read: Read, i: usize) -> u64
+pub fn value(registers: &[u8], vlenb: usize, read: Read, i: usize) -> u64
     requires { ⌜ ReadInside (length (now registers)) vlenb read i ⌝ }
     ensures { λ r. ⌜ r ≡ valueOf vlenb (now (registers .entry)) read i ⌝ }
 {
@@ -42,6 +43,14 @@ pub fn active(registers: &[u8], vlenb: usize, masked: bool, i: usize) -> bool
         return true;
     }
     layout::read_element(registers, vlenb, 0, 1, i) == 1
+}
+
+// Whether element i is active and its bit in a mask register set.
+pub fn set_at(registers: &[u8], vlenb: usize, masked: bool, reg: usize, i: usize) -> bool
+    requires { ⌜ Inside (length (now registers)) vlenb 0 1 i × Inside (length (now registers)) vlenb reg 1 i ⌝ }
+    ensures { λ r. ⌜ r ≡ setAt vlenb (now (registers .entry)) masked reg i ⌝ }
+{
+    active(registers, vlenb, masked, i) & (layout::read_element(registers, vlenb, reg, 1, i) == 1)
 }
 
 // ---- operations

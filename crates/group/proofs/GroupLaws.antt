@@ -14,6 +14,7 @@ use borrow.Author.Tests.{eqb-true}
 use Rattle.laws.proofs.Apart.{both-left, both-right, or-cases, apart}
 use Rattle.group.specs.declared.Group.{Group}
 use Rattle.group.specs.Group.{registersOf, nfields, fieldGroup, spanOf, placedOf, apartOf, lowestOf, highestOf, mayOverlapOf}
+use Rattle.group.specs.Group.{mayShareOf}
 
 pub record Placed (elen : ℕ) (g : Group) : Type 0 where
   pub eew-low : 8 ≤ g .eew
@@ -44,11 +45,11 @@ pub fields-before : (g : Group) (k : ℕ) → k ≤ g .nf → k * registersOf g 
 fields-before g k h = omega (arith, mul-le-mul-right (registersOf g) h)
 
 module _ (d s : Group) (k : ℕ) (m : k ≤ d .nf) where
-  apart-cases : apartOf d s ≡ true → MayOverlap d s k
-  apart-cases h =
+  pub field-apart : apartOf d s ≡ true → (fieldGroup d k .reg + registersOf d ≤ s .reg) ⊎ (s .reg + registersOf s ≤ fieldGroup d k .reg)
+  field-apart h =
       ⊎-elim
-      (λ t. let l : d .reg + spanOf d ≤ s .reg = search apart in below (omega (arith, fields-before d k m)))
-      (λ t. let l : s .reg + spanOf s ≤ d .reg = search apart in above (omega (arith, fields-before s 0 (omega arith))))
+      (λ t. let l : d .reg + spanOf d ≤ s .reg = search apart in inl (omega (arith, fields-before d k m)))
+      (λ t. let l : s .reg + spanOf s ≤ d .reg = search apart in inr (omega (arith, fields-before s 0 (omega arith))))
       (or-cases (leb (d .reg + spanOf d) (s .reg)) _ h)
 
   -- the one field of a destination
@@ -70,7 +71,7 @@ module _ (d s : Group) (k : ℕ) (m : k ≤ d .nf) where
   pub overlap-cases : mayOverlapOf d s ≡ true → MayOverlap d s k
   unfolding mayOverlapOf
   overlap-cases h =
-      ⊎-elim apart-cases
+      ⊎-elim (λ t. ⊎-elim below above (field-apart t))
       (λ t. over-cases (eqb-true (d .nf) 0 (both-left (eqb (d .nf) 0) _ t)) (both-right (eqb (d .nf) 0) _ t))
       (or-cases (apartOf d s) _ h)
 
@@ -121,15 +122,22 @@ emul8-fits sew lmul8 eew h k = record { fits = omega (arith, mul-le-mul k h, div
 
 -- ---- the tests, as the code has them
 
+pub apart-is : (d s : Group) (m n : ℕ) → m ≡ d .reg + spanOf d → n ≡ s .reg + spanOf s → (leb m (s .reg) || leb n (d .reg)) ≡ apartOf d s
+apart-is d s m n p q = rw (p, q)
+
 pub placed-is : (elen : ℕ) (g : Group) (registers end : ℕ) → registers ≡ registersOf g → end ≡ g .reg + spanOf g
     → (((((leb 8 (g .eew) && leb (g .eew) elen) && leb 1 (g .emul8)) && leb ((g .nf + 1) * g .emul8) 64) && eqb (g .reg % registers) 0)
     && leb end 32) ≡ placedOf elen g
 unfolding placedOf
 placed-is elen g registers end p q = simp (p, q, add-one, and-assoc)
 
-pub overlap-is : (d s : Group) (dend send : ℕ) (part : Bool) → dend ≡ d .reg + spanOf d → send ≡ s .reg + spanOf s → part ≡ highestOf d s
-    → ((leb dend (s .reg) || leb send (d .reg)) || (eqb (d .nf) 0
+pub overlap-is : (d s : Group) (separate part : Bool) → separate ≡ apartOf d s → part ≡ highestOf d s
+    → (separate || (eqb (d .nf) 0
     && ((eqb (d .eew) (s .eew) || (ltb (d .eew) (s .eew) && eqb (d .reg) (s .reg)))
     || ((ltb (s .eew) (d .eew) && part) && leb 8 (s .emul8))))) ≡ mayOverlapOf d s
 unfolding mayOverlapOf
-overlap-is d s dend send part p q h = simp (p, q, h, and-assoc, or-assoc)
+overlap-is d s separate part p h = simp (p, h, and-assoc, or-assoc)
+
+pub share-is : (r s : Group) (separate : Bool) → separate ≡ apartOf r s → (separate || eqb (r .eew) (s .eew)) ≡ mayShareOf r s
+unfolding mayShareOf
+share-is r s separate p = rw p

@@ -3,7 +3,7 @@
 ghost use mathlib.Core.Path.{_≡_};
 ghost use Prim.Native.Nat.{_+_, _≤_, _<_};
 ghost use Rattle.group.specs.Group.{emul8Of, maskGroup, registersOf, spanOf, placedOf};
-ghost use Rattle.group.specs.Group.{highestOf, mayOverlapOf, mayShareOf, sparesV0};
+ghost use Rattle.group.specs.Group.{apartOf, highestOf, mayOverlapOf, mayShareOf, sparesV0};
 
 // A group: its first register, EEW, and 8 * EMUL. Of a segment access, that of the first field: nf others of the kind follow it.
 pub struct Group {
@@ -79,15 +79,20 @@ fn highest(d: Group, s: Group) -> bool
     s.reg + registers(s) == d.reg + registers(d)
 }
 
+// Whether two groups have no register in common.
+pub fn apart(d: Group, s: Group) -> bool
+    requires { ⌜ (d .reg < 32) × (s .reg < 32) ⌝ }
+    ensures { λ r. ⌜ r ≡ apartOf d s ⌝ }
+{
+    (end(d) <= s.reg) | (end(s) <= d.reg)
+}
+
 // Whether a destination may overlap a source as it does.
 pub fn may_overlap(d: Group, s: Group) -> bool
     requires { ⌜ (d .reg < 32) × (s .reg < 32) ⌝ }
     ensures { λ r. ⌜ r ≡ mayOverlapOf d s ⌝ }
 {
-    let d_end = end(d);
-    let s_end = end(s);
-    (d_end <= s.reg)
-        | (s_end <= d.reg)
+    apart(d, s)
         | ((d.nf == 0)
             & ((d.eew == s.eew)
                 | ((d.eew < s.eew) & (d.reg == s.reg))
@@ -99,7 +104,7 @@ pub fn may_share(r: Group, s: Group) -> bool
     requires { ⌜ (r .reg < 32) × (s .reg < 32) ⌝ }
     ensures { λ z. ⌜ z ≡ mayShareOf r s ⌝ }
 {
-    (end(r) <= s.reg) | (end(s) <= r.reg) | (r.eew == s.eew)
+    apart(r, s) | (r.eew == s.eew)
 }
 
 // Whether a destination keeps off v0 where v0 is the mask.

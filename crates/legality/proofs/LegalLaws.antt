@@ -1,6 +1,6 @@
 -- Legality, from what the code has worked out: one law for each way, over plain variables.
 use Prim.Native.Nat.{ℕ, _<_}
-use mathlib.Core.Path.{_≡_, refl, _∙_, subst}
+use mathlib.Core.Path.{_≡_, _∙_, subst}
 use mathlib.Core.Bool.{Bool, true, false, not, _&&_, _||_}
 use lib.Dec.{leb, eqb}
 use borrow.Author.Tests.{not-true, not-false}
@@ -10,7 +10,6 @@ use Rattle.operation.specs.Shape.{largestSew}
 use Rattle.control.specs.declared.Board.{Board}
 use Rattle.control.specs.declared.Control.{Control}
 use Rattle.control.specs.Control.{isOff}
-use Rattle.decode.specs.declared.Setting.{Setting}
 use Rattle.decode.specs.declared.MaskInstruction.{MaskInstruction}
 use Rattle.group.specs.declared.Group.{Group}
 use Rattle.group.specs.Group.{maskGroup}
@@ -20,14 +19,12 @@ use Rattle.plan.specs.declared.Action.{Action}
 use Rattle.plan.specs.declared.Action.the-variants as A
 use Rattle.plan.specs.declared.Compute.{Compute}
 use Rattle.plan.specs.declared.Elementwise.{Elementwise}
-use Rattle.plan.specs.declared.Reduction.{Reduction}
 use Rattle.plan.specs.declared.Sources.{Sources}
 use Rattle.plan.specs.declared.OneTurn.{OneTurn}
-use Rattle.plan.specs.declared.OneTurn.the-variants as O
 use Rattle.plan.specs.declared.Plan.{Plan}
 use Rattle.plan.specs.declared.Plan.the-variants as P
 use Rattle.legality.specs.Legal.{startable, operandsFit, isThere, elementsLegal}
-use Rattle.legality.specs.Legal.{writesMask, maskApart, reductionPlaced, oneTurnLegal, sourcesFit, kindLegal, legalOf, checkedOf}
+use Rattle.legality.specs.Legal.{writesMask, maskApart, oneTurnLegal, sourcesFit, kindLegal, legalOf, checkedOf}
 use Rattle.plan.specs.Sources.{sourcesOf}
 use Rattle.plan.specs.Range.{ReadInRange, listed}
 
@@ -52,19 +49,14 @@ module _ (b : Board) (c : Control) where
 
   -- ---- instructions that take one turn
 
-  pub setting-legal : (t : OneTurn) (s : Setting) → t ≡ O.Setting s → true ≡ oneTurnLegal b c t
-  unfolding oneTurnLegal
-  setting-legal t s e = case (oneTurnLegal b c) t (O.Setting s) true e refl
+  -- in the arm of the variant v
+  pub one-turn-by : (t v : OneTurn) (r : Bool) → t ≡ v → r ≡ oneTurnLegal b c v → r ≡ oneTurnLegal b c t
+  one-turn-by = case (oneTurnLegal b c)
 
-  pub mask-legal : (t : OneTurn) (m : MaskInstruction) (start apart : Bool) → t ≡ O.Mask m → start ≡ startable b c → apart ≡ maskApart m
-      → (start && (eqb (c .vstart) 0 && apart)) ≡ oneTurnLegal b c t
-  unfolding oneTurnLegal
-  mask-legal t m start apart e p q = case (oneTurnLegal b c) t (O.Mask m) (start && (eqb (c .vstart) 0 && apart)) e (rw (p, q))
-
-  pub reduction-legal : (t : OneTurn) (r : Reduction) (start fit : Bool) → t ≡ O.Reduction r → start ≡ startable b c
-      → fit ≡ reductionPlaced (b .elen) r → (start && (eqb (c .vstart) 0 && fit)) ≡ oneTurnLegal b c t
-  unfolding oneTurnLegal
-  reduction-legal t r start fit e p q = case (oneTurnLegal b c) t (O.Reduction r) (start && (eqb (c .vstart) 0 && fit)) e (rw (p, q))
+  -- and where v needs vstart 0 beside a rule of its own
+  pub from-zero-by : (t v : OneTurn) (start fit rule : Bool) → t ≡ v → start ≡ startable b c → fit ≡ rule
+      → (startable b c && (eqb (c .vstart) 0 && rule)) ≡ oneTurnLegal b c v → (start && (eqb (c .vstart) 0 && fit)) ≡ oneTurnLegal b c t
+  from-zero-by t v start fit rule e p q h = one-turn-by t v (start && (eqb (c .vstart) 0 && fit)) e (rw (p, q) h)
 
   -- ---- every plan
 

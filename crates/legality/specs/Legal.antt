@@ -1,4 +1,5 @@
--- Whether a plan is legal (sections 4.2, 6.2, 6.3, 8.8, 15, 16; document 01, 'Words, groups and elements'; document 02, A1, A4, A5, A8).
+-- Whether a plan is legal (sections 4.2, 6.2, 6.3, 8.8, 15 to 17; document 01, 'Words, groups and elements'; document 02, A1, A4, A5, A6,
+-- A8).
 use Prim.Native.Nat.{ℕ, _*_, _/_}
 use mathlib.Core.Bool.{Bool, true, false, not, _&&_, _||_, cond}
 use mathlib.Core.List.{List, [], _∷_}
@@ -11,14 +12,17 @@ use Rattle.control.specs.Control.{isOff}
 use Rattle.decode.specs.declared.MaskOp.{MaskOp}
 use Rattle.decode.specs.declared.MaskOp.the-variants.{Vcpop, Vfirst, Vmsbf, Vmsof, Vmsif}
 use Rattle.decode.specs.declared.MaskInstruction.{MaskInstruction}
+use Rattle.decode.specs.declared.PermutationOp.{PermutationOp}
+use Rattle.decode.specs.declared.PermutationOp.the-variants.{Vid, Vslideup, Vslidedown, Vslide1up, Vslide1down, Vrgather, Vrgatherei16}
 use Rattle.group.specs.declared.Group.{Group}
-use Rattle.group.specs.Group.{maskGroup, placedOf, mayOverlapOf, mayShareOf, sparesV0}
+use Rattle.group.specs.Group.{maskGroup, placedOf, apartOf, mayOverlapOf, mayShareOf, sparesV0}
 use Rattle.plan.specs.declared.Read.{Read}
 use Rattle.plan.specs.declared.Read.the-variants as R
 use Rattle.plan.specs.declared.Action.{Action}
 use Rattle.plan.specs.declared.Action.the-variants as A
 use Rattle.plan.specs.declared.Elementwise.{Elementwise}
 use Rattle.plan.specs.declared.Reduction.{Reduction}
+use Rattle.plan.specs.declared.Packing.{Packing}
 use Rattle.plan.specs.declared.OneTurn.{OneTurn}
 use Rattle.plan.specs.declared.OneTurn.the-variants as O
 use Rattle.plan.specs.declared.Plan.{Plan}
@@ -32,15 +36,36 @@ startable b c = not (eqb (c .vtype) vill) && ltb (c .vstart) (64 * b .vlenb / se
 
 -- ---- instructions of elements
 
+-- Slides up, gathers, viota.m and vcompress.vm are strict: the destination "cannot overlap" a source, not even of equal EEW (sections
+-- 16.8, 17.3.1, 17.3.3, 17.4, 17.5)
+abbrev pub overlapFits : Bool → Group → Group → Bool
+overlapFits strict d s = apartOf d s || (not strict && mayOverlapOf d s)
+
 -- an operand is well placed and, beside a destination that is written, overlaps it only as it may
-unfoldable pub readFits : ℕ → Bool → Group → Read → Bool
-readFits elen writes d (R.Constant n) = true
-readFits elen writes d (R.Element g) = placedOf elen g && (not writes || mayOverlapOf d g)
-readFits elen writes d (R.Bit reg) = not writes || mayOverlapOf d (maskGroup reg)
+unfoldable pub readFits : ℕ → Bool → Bool → Group → Read → Bool
+readFits elen writes strict d (R.Constant n) = true
+readFits elen writes strict d (R.Element g) = placedOf elen g && (not writes || overlapFits strict d g)
+readFits elen writes strict d (R.Bit reg) = not writes || overlapFits strict d (maskGroup reg)
 
 abbrev pub writesRegisters : Action → Bool
 writesRegisters (A.Compute k) = true
+writesRegisters (A.Permute p) = true
 writesRegisters (A.Transfer t) = not (t .store)
+
+-- slides down may write onto their source; vid.v has none
+abbrev pub strictly : PermutationOp → Bool
+strictly Vid = false
+strictly Vslideup = true
+strictly Vslidedown = false
+strictly Vslide1up = true
+strictly Vslide1down = false
+strictly Vrgather = true
+strictly Vrgatherei16 = true
+
+abbrev pub isStrict : Action → Bool
+isStrict (A.Compute k) = false
+isStrict (A.Permute p) = strictly (p .op)
+isStrict (A.Transfer t) = false
 
 abbrev pub isBit : Read → Bool
 isBit (R.Constant n) = false
@@ -51,14 +76,15 @@ isBit (R.Bit reg) = true
 unfoldable pub operandsFit : ℕ → Elementwise → Bool
 operandsFit elen e =
     (eqb (e .dest .eew) 1 || placedOf elen (e .dest))
-    && (readFits elen (writesRegisters (e .action)) (e .dest) (e .vs2)
-    && (readFits elen (writesRegisters (e .action)) (e .dest) (e .vs1)
-    && (readFits elen (writesRegisters (e .action)) (e .dest) (e .vd)
+    && (readFits elen (writesRegisters (e .action)) (isStrict (e .action)) (e .dest) (e .vs2)
+    && (readFits elen (writesRegisters (e .action)) (isStrict (e .action)) (e .dest) (e .vs1)
+    && (readFits elen (writesRegisters (e .action)) (isStrict (e .action)) (e .dest) (e .vd)
     && (not (writesRegisters (e .action)) || sparesV0 (e .masked || isBit (e .v0)) (e .dest)))))
 
 -- an operation is there at this SEW (operation/specs/Shape, `largest`)
 abbrev pub isThere : Action → Bool
 isThere (A.Compute k) = leb (k .sew) (largestSew (k .op))
+isThere (A.Permute p) = true
 isThere (A.Transfer t) = true
 
 unfoldable pub elementsLegal : Board → Control → Elementwise → Bool
@@ -87,11 +113,23 @@ maskApart m = not (writesMask (m .op)) || (not (eqb (m .rd) (m .vs2)) && keepsV0
 abbrev pub reductionPlaced : ℕ → Reduction → Bool
 reductionPlaced elen r = leb (r .vd .eew) elen && placedOf elen (r .vs2)
 
--- those on masks (sections 16.2 to 16.6) and the reductions (section 15) need vstart 0
+-- viota.m and vcompress.vm: destination and elements are well placed, the destination overlaps neither them nor the mask that is counted,
+-- "and, if masked, cannot overlap the mask register (v0)" (section 16.8)
+abbrev pub packingPlaced : ℕ → Packing → Bool
+packingPlaced elen p =
+    placedOf elen (p .vd)
+    && (readFits elen true true (p .vd) (p .elements)
+    && (readFits elen true true (p .vd) (R.Bit (p .mask))
+    && sparesV0 (p .masked) (p .vd)))
+
+-- those on masks (sections 16.2 to 16.6), the reductions (section 15), viota.m and vcompress.vm need vstart 0. "The scalar moves use
+-- single registers of any number" (A6)
 unfoldable pub oneTurnLegal : Board → Control → OneTurn → Bool
 oneTurnLegal b c (O.Setting t) = true
 oneTurnLegal b c (O.Mask m) = startable b c && (eqb (c .vstart) 0 && maskApart m)
 oneTurnLegal b c (O.Reduction r) = startable b c && (eqb (c .vstart) 0 && reductionPlaced (b .elen) r)
+oneTurnLegal b c (O.Packing p) = startable b c && (eqb (c .vstart) 0 && packingPlaced (b .elen) p)
+oneTurnLegal b c (O.ScalarMove m) = startable b c
 
 -- ---- every plan
 

@@ -8,19 +8,21 @@ ghost use Rattle.control.specs.Vtype.{sewOf};
 ghost use Rattle.decode.specs.Fields.{Fits};
 ghost use Rattle.plan.specs.Plan.{planOf};
 ghost use Rattle.plan.specs.Sources.{registersRead};
-ghost use Rattle.plan.specs.Range.{ReadInRange, InRange, ReductionInRange, OneTurnFits, PlanFits, listed, SourcesInRange};
-ghost use Rattle.legality.specs.Legal.{startable, readFits, writesRegisters, isBit, operandsFit, isThere, elementsLegal};
-ghost use Rattle.legality.specs.Legal.{writesMask, maskApart, reductionPlaced, oneTurnLegal};
+ghost use Rattle.plan.specs.Range.{ReadInRange, InRange, ReductionInRange, PackingInRange, OneTurnFits, PlanFits, listed, SourcesInRange};
+ghost use Rattle.legality.specs.Legal.{startable, overlapFits, readFits, writesRegisters, strictly, isStrict, isBit, operandsFit};
+ghost use Rattle.legality.specs.Legal.{isThere, elementsLegal, writesMask, maskApart, reductionPlaced, packingPlaced, oneTurnLegal};
 ghost use Rattle.legality.specs.Legal.{mayShareEach, sourcesFit, kindLegal, legalOf, checkedOf};
 use control::Board;
 use control::Control;
 use decode::Instruction;
 use decode::MaskInstruction;
 use decode::MaskOp;
+use decode::PermutationOp;
 use group::Group;
 use plan::Action;
 use plan::Elementwise;
 use plan::OneTurn;
+use plan::Packing;
 use plan::Plan;
 use plan::Read;
 use plan::Reduction;
@@ -35,15 +37,23 @@ fn may_start(board: Board, control: Control) -> bool
         & (control.vstart < 64 * board.vlenb / Control::sew(control.vtype))
 }
 
+// Whether a destination may overlap a source as it does: not at all, where the instruction is strict.
+fn overlap_fits(strict: bool, d: Group, s: Group) -> bool
+    requires { ⌜ (d .reg < 32) × (s .reg < 32) ⌝ }
+    ensures { λ r. ⌜ r ≡ overlapFits strict d s ⌝ }
+{
+    group::apart(d, s) | (!strict & group::may_overlap(d, s))
+}
+
 // Whether an operand is legal beside a destination, where that is written.
-fn read_fits(elen: usize, writes: bool, dest: Group, read: Read) -> bool
+fn read_fits(elen: usize, writes: bool, strict: bool, dest: Group, read: Read) -> bool
     requires { ⌜ (dest .reg < 32) × ReadInRange read ⌝ }
-    ensures { λ r. ⌜ r ≡ readFits elen writes dest read ⌝ }
+    ensures { λ r. ⌜ r ≡ readFits elen writes strict dest read ⌝ }
 {
     match read {
         Read::Constant(_) => true,
-        Read::Element(g) => group::placed(elen, g) & (!writes | group::may_overlap(dest, g)),
-        Read::Bit(r) => !writes | group::may_overlap(dest, group::mask(r)),
+        Read::Element(g) => group::placed(elen, g) & (!writes | overlap_fits(strict, dest, g)),
+        Read::Bit(r) => !writes | overlap_fits(strict, dest, group::mask(r)),
     }
 }
 
@@ -52,7 +62,36 @@ fn writes_registers(action: Action) -> bool
 {
     match action {
         Action::Compute(_) => true,
+        Action::Permute(_) => true,
         Action::Transfer(t) => !t.store,
+    }
+}
+
+fn strict_op(op: PermutationOp) -> bool
+    ensures { λ r. ⌜ r ≡ strictly op ⌝ }
+{
+    match op {
+        PermutationOp::Vid => false,
+        PermutationOp::Vslideup => true,
+        PermutationOp::Vslidedown => false,
+        PermutationOp::Vslide1up => true,
+        PermutationOp::Vslide1down => false,
+        PermutationOp::Vrgather => true,
+        PermutationOp::Vrgatherei16 => true,
+    }
+}
+
+// Whether the destination overlaps no source at all.
+fn is_strict(action: Action) -> bool
+    ensures { λ r. ⌜ r ≡ isStrict action ⌝ }
+{
+    match action {
+        Action::Compute(_) => false,
+        Action::Permute(p) => {
+            let op = p.op;
+            strict_op(op)
+        }
+        Action::Transfer(_) => false,
     }
 }
 
@@ -78,10 +117,11 @@ fn operands_fit(elen: usize, e: Elementwise) -> bool
     let v0 = e.v0;
     let action = e.action;
     let writes = writes_registers(action);
+    let strict = is_strict(action);
     ((dest.eew == 1) | group::placed(elen, dest))
-        & (read_fits(elen, writes, dest, vs2)
-            & (read_fits(elen, writes, dest, vs1)
-                & (read_fits(elen, writes, dest, vd)
+        & (read_fits(elen, writes, strict, dest, vs2)
+            & (read_fits(elen, writes, strict, dest, vs1)
+                & (read_fits(elen, writes, strict, dest, vd)
                     & (!writes | group::spares_v0(e.masked | is_bit(v0), dest)))))
 }
 
@@ -94,6 +134,7 @@ fn is_there(action: Action) -> bool
             let op = k.op;
             k.sew <= operation::largest_sew(op)
         }
+        Action::Permute(_) => true,
         Action::Transfer(_) => true,
     }
 }
@@ -137,6 +178,18 @@ fn reduction_placed(elen: usize, r: Reduction) -> bool
     (vd.eew <= elen) & group::placed(elen, vs2)
 }
 
+// The operands of viota.m or vcompress.vm are well placed, and the destination overlaps none of them.
+fn packing_placed(elen: usize, p: Packing) -> bool
+    requires { ⌜ PackingInRange p ⌝ }
+    ensures { λ r. ⌜ r ≡ packingPlaced elen p ⌝ }
+{
+    let vd = p.vd;
+    let elements = p.elements;
+    group::placed(elen, vd)
+        & (read_fits(elen, true, true, vd, elements)
+            & (read_fits(elen, true, true, vd, Read::Bit(p.mask)) & group::spares_v0(p.masked, vd)))
+}
+
 fn one_turn_legal(board: Board, control: Control, t: OneTurn) -> bool
     requires { ⌜ Valid board × OneTurnFits t ⌝ }
     ensures { λ r. ⌜ r ≡ oneTurnLegal board control t ⌝ }
@@ -148,6 +201,11 @@ fn one_turn_legal(board: Board, control: Control, t: OneTurn) -> bool
             may_start(board, control)
                 & ((control.vstart == 0) & reduction_placed(board.elen as usize, r))
         }
+        OneTurn::Packing(p) => {
+            may_start(board, control)
+                & ((control.vstart == 0) & packing_placed(board.elen as usize, p))
+        }
+        OneTurn::ScalarMove(_) => may_start(board, control),
     }
 }
 

@@ -24,6 +24,8 @@ use Rattle.control.proofs.Laws.{possible-apart}
 use Rattle.decode.specs.declared.MaskOp.{MaskOp}
 use Rattle.decode.specs.declared.MaskOp.the-variants.{Vcpop, Vfirst, Vmsbf, Vmsof, Vmsif}
 use Rattle.decode.specs.declared.MaskInstruction.{MaskInstruction}
+use Rattle.decode.specs.declared.ScalarMoveOp.{ScalarMoveOp}
+use Rattle.decode.specs.declared.ScalarMoveOp.the-variants.{VmvXS, VmvSX}
 use Rattle.decode.specs.declared.Access.{Access}
 use Rattle.decode.specs.declared.Mode.{Mode}
 use Rattle.decode.specs.declared.Mode.the-variants as M
@@ -36,11 +38,12 @@ use Rattle.access.specs.Access.{nowhere}
 use Rattle.refusal.specs.Refusal.{refusalOf}
 use Rattle.refusal.proofs.RefusalLaws.{accepted-facts}
 use Rattle.plan.specs.declared.Action.the-variants as A
+use Rattle.plan.specs.declared.ScalarMove.{ScalarMove}
 use Rattle.plan.specs.declared.OneTurn.{OneTurn}
 use Rattle.plan.specs.declared.OneTurn.the-variants as O
 use Rattle.plan.specs.declared.Plan.{Plan}
 use Rattle.plan.specs.declared.Plan.the-variants as P
-use Rattle.plan.specs.Plan.{shapedOf, byMode, reducingOf, planOf}
+use Rattle.plan.specs.Plan.{shapedOf, permutingOf, byMode, reducingOf, packingOf, scalarMovingOf, planOf}
 use Rattle.legality.specs.Legal.{legalOf}
 use Rattle.turn_theory.specs.Turn.{finished, paused, trapped, rejected, Semantics, Point, TurnEnd, Turn}
 use Rattle.turn_theory.specs.Turn.{turn, turns, Opening, NoneFinishes, finalRights, uncutRun}
@@ -49,7 +52,7 @@ use Rattle.turn_theory.proofs.Laws.{turn-rejected, turn-cases, turn-keeps, unfi
 use Rattle.turn_theory.proofs.Changes.{passes-by}
 use Rattle.machine.specs.State.{State, Outcome, withRights, Core, coreOf, stateOf, withControl}
 use Rattle.machine.specs.Effect.{Write, toRegisters, toMemory, putOf}
-use Rattle.machine.specs.OneTurn.{typeFrom, avlFrom, settingResult, maskResult, oneTurnResult}
+use Rattle.machine.specs.OneTurn.{typeFrom, avlFrom, settingResult, maskResult, scalarMoveResult, oneTurnResult}
 use Rattle.machine.specs.Machine.{endOf, resultAt, refusalAt, orIllegal, rejectionAt, Opened, semanticsOf, answerOf}
 use Rattle.machine.specs.Machine.{vsAfter, ranOf, outcomeOf, planTurn, planAt, turnOf}
 use Rattle.machine.specs.Demands.{isTrap, changesNothing, untouched, Demand1, Demand3, Counts, Next, turnsOf, lastRights, Between}
@@ -226,13 +229,22 @@ mask-vstart vlenb vl m s Vmsbf h = h
 mask-vstart vlenb vl m s Vmsof h = h
 mask-vstart vlenb vl m s Vmsif h = h
 
-pub result-vstart : (b : Board) (p : Plan) (s : Core) → s .control .vstart ≡ 0 → resultAt b p s .control .vstart ≡ 0
+move-vstart : (vlenb : ℕ) (m : ScalarMove) (v : ℕ) (s : Core) (o : ScalarMoveOp) → s .control .vstart ≡ 0
+    → scalarMoveResult vlenb m v s o .control .vstart ≡ 0
+unfolding scalarMoveResult
+move-vstart vlenb m v s VmvXS h = h
+move-vstart vlenb m v s VmvSX h = h
+
+pub result-vstart : (b : Board) (p : Plan) (v : ℕ) (s : Core) → s .control .vstart ≡ 0 → resultAt b p v s .control .vstart ≡ 0
 unfolding oneTurnResult settingResult
-result-vstart b P.Illegal s h = h
-result-vstart b (P.OneTurn (O.Setting t)) s h = set-vstart b (s .control) (typeFrom (s .scalars) (t .vtype)) (avlFrom (s .scalars) (t .avl))
-result-vstart b (P.OneTurn (O.Mask m)) s h = mask-vstart (b .vlenb) (s .control .vl) m s (m .op) h
-result-vstart b (P.OneTurn (O.Reduction r)) s h = h
-result-vstart b (P.Elements e) s h = h
+result-vstart b P.Illegal v s h = h
+result-vstart b (P.OneTurn (O.Setting t)) v s h =
+    set-vstart b (s .control) (typeFrom (s .scalars) (t .vtype)) (avlFrom (s .scalars) (t .avl))
+result-vstart b (P.OneTurn (O.Mask m)) v s h = mask-vstart (b .vlenb) (s .control .vl) m s (m .op) h
+result-vstart b (P.OneTurn (O.Reduction r)) v s h = h
+result-vstart b (P.OneTurn (O.Packing p)) v s h = h
+result-vstart b (P.OneTurn (O.ScalarMove m)) v s h = move-vstart (b .vlenb) m v s (m .op) h
+result-vstart b (P.Elements e) v s h = h
 
 -- ---- the plan goes by none of vstart, vxsat and VS, so that it is the same in each turn
 
@@ -249,12 +261,15 @@ mode-besides b x c a v q w M.MaskBytes = refl
 mode-besides b x c a v q w (M.Whole n) = refl
 
 plan-besides : (b : Board) (x : List ℕ) (c : Control) (v q w : ℕ) (i : Instruction) → planOf b x (besides c v q w) i ≡ planOf b x c i
-unfolding planOf shapedOf reducingOf
+unfolding planOf shapedOf reducingOf permutingOf packingOf scalarMovingOf
 plan-besides b x c v q w I.Illegal = refl
 plan-besides b x c v q w (I.Setting t) = refl
 plan-besides b x c v q w (I.Mask m) = refl
 plan-besides b x c v q w (I.Reduction a) = refl
+plan-besides b x c v q w (I.Pack a) = refl
+plan-besides b x c v q w (I.ScalarMove a) = refl
 plan-besides b x c v q w (I.Arithmetic a) = refl
+plan-besides b x c v q w (I.Permutation a) = refl
 plan-besides b x c v q w (I.Memory a) = ap P.Elements (mode-besides b x c a v q w (a .mode))
 
 put-plan : (b : Board) (i : Instruction) (p : Plan) (w : Write) (s : Core) → planOf b (s .scalars) (s .control) i ≡ p

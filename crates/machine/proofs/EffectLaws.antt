@@ -1,13 +1,17 @@
 -- What one element does: an element that is undisturbed does the same after an earlier one has written, and raised rights only lift faults.
-use Prim.Native.Nat.{ℕ, zero, suc, _+_, _≤_, _<_}
+use Prim.Native.Nat.{ℕ, zero, suc, _+_, _-_, _≤_, _<_}
 use mathlib.Core.Path.{_≡_, refl, sym, ap, ap₂, _∙_, subst}
 use mathlib.Core.Bool.{Bool, true, false, not, cond}
+use mathlib.Core.Logic.{_⊎_, inl, inr}
 use mathlib.Core.List.{List, [], _∷_}
 use native.Mathlib.Omega.{arith}
 use lib.ListN.{length}
-use lib.Dec.{T, eqb}
+use lib.Dec.{T, ltb, eqb}
+use borrow.Author.Tests.{ltb-true}
 use Rattle.fixed.specs.declared.Element.{Element}
 use Rattle.control.specs.declared.Board.{Board}
+use Rattle.decode.specs.declared.PermutationOp.{PermutationOp}
+use Rattle.decode.specs.declared.PermutationOp.the-variants.{Vid, Vslideup, Vslidedown, Vslide1up, Vslide1down, Vrgather, Vrgatherei16}
 use Rattle.layout.proofs.BytesLaws.{length-withBytes}
 use Rattle.group.specs.declared.Group.{Group}
 use Rattle.group.specs.Group.{nfields, fieldGroup}
@@ -19,14 +23,15 @@ use Rattle.access.proofs.AccessLaws.{facts-granted, granted-facts, granted-firs
 use Rattle.plan.specs.declared.Read.the-variants as R
 use Rattle.plan.specs.declared.Action.{Action}
 use Rattle.plan.specs.declared.Action.the-variants as A
+use Rattle.plan.specs.declared.Permute.{Permute}
 use Rattle.plan.specs.declared.Elementwise.{Elementwise}
-use Rattle.legality.specs.Legal.{writesRegisters}
+use Rattle.legality.specs.Legal.{writesRegisters, strictly}
 use Rattle.turn_theory.specs.Turn.{Effect, inactive, fault, write, faults}
 use Rattle.machine.specs.State.{Core}
 use Rattle.machine.specs.Effect.{Write, toRegisters, toMemory, putOf, putAll, valueOf, activeOf, elementAddress, ifGranted}
-use Rattle.machine.specs.Effect.{eachField, fieldWrite, transferring, actingOf, effectOf}
+use Rattle.machine.specs.Effect.{vs2At, staysAt, permutedOf, eachField, fieldWrite, transferring, actingOf, effectOf}
 use Rattle.machine.specs.Machine.{Opened}
-use Rattle.machine.proofs.PlanFacts.{Undisturbed}
+use Rattle.machine.proofs.PlanFacts.{MovedKept, Undisturbed}
 
 -- ---- effects are one thing or another
 
@@ -80,6 +85,7 @@ acting-opened : (b : Board) (r r′ : List ℕ) (s : Core) (e : Elementwise) (i 
     → faults (actingOf b r s e i act) ≡ false → actingOf b r′ s e i act ≡ actingOf b r s e i act
 unfolding actingOf
 acting-opened b r r′ s e i (A.Compute k) o h = refl
+acting-opened b r r′ s e i (A.Permute p) o h = refl
 acting-opened b r r′ s e i (A.Transfer t) o h = granted-opened r r′ _ (t .store) _ (t .bytes) (nfields (e .dest)) _ o h
 
 pub effect-opened : (b : Board) (r r′ : List ℕ) (s : Core) (e : Elementwise) (i : ℕ) → Opened r r′
@@ -116,11 +122,23 @@ module _ (vlenb : ℕ) (file memory : List ℕ) (d : Group) (n j a : ℕ) where
   fields-wrote true k (suc others) h = in-memory _ n _ _ (fields-wrote true (suc k) others (omega arith))
   fields-wrote false k (suc others) h = in-registers k _ _ _ (omega arith) refl refl (fields-wrote false (suc k) others (omega arith))
 
+-- one write to the destination, or none
+one-wrote : (d : Group) (j : ℕ) (x : Element) (l : List Write)
+    → _≡_ {A = Effect Fault (List Write)} (write (toRegisters d j x ∷ [])) (write l) → Wrote d j true l
+one-wrote d j x l h = rw (write-same _ l h) (in-registers 0 d x [] (omega arith) (omega arith) refl (nothing true))
+
+moved-wrote : (d : Group) (j : ℕ) (x : Element) (l : List Write) (t : Bool)
+    → _≡_ {A = Effect Fault (List Write)} (cond t inactive (write (toRegisters d j x ∷ []))) (write l) → Wrote d j true l
+moved-wrote d j x l true h = absurd (inactive≢write l h)
+moved-wrote d j x l false h = one-wrote d j x l h
+
 acting-wrote : (b : Board) (r : List ℕ) (s : Core) (e : Elementwise) (j : ℕ) (l : List Write) (act : Action)
     → actingOf b r s e j act ≡ write l → Wrote (e .dest) j (writesRegisters act) l
 unfolding actingOf
 acting-wrote b r s e j l (A.Compute k) h =
-    rw (write-same _ l h) (in-registers 0 (e .dest) _ [] (omega arith) (omega arith) refl (nothing true))
+    one-wrote (e .dest) j _ l h
+acting-wrote b r s e j l (A.Permute p) h =
+    moved-wrote (e .dest) j _ l (staysAt (p .op) (valueOf (b .vlenb) (s .registers) (e .vs1) j) j) h
 acting-wrote b r s e j l (A.Transfer t) h =
     let a : ℕ = elementAddress t j (valueOf (b .vlenb) (s .registers) (e .vs2) j) in
     rw (write-same _ l (granted-write (fieldsAccess r (length (s .memory)) (t .store) a (t .bytes) 0 (nfields (e .dest))) _ l h))
@@ -134,6 +152,19 @@ effect-wrote b r s e j l = go (activeOf (b .vlenb) (s .registers) (e .masked) j)
     go : (t : Bool) → cond t (actingOf b r s e j (e .action)) inactive ≡ write l → Wrote (e .dest) j (writesRegisters (e .action)) l
     go true h = acting-wrote b r s e j l (e .action) h
     go false h = absurd (inactive≢write l h)
+
+-- ---- what a permutation makes of the elements of vs2
+
+-- two ways to read vs2 that agree where element i may read it give the same
+permuted-same : (op : PermutationOp) (sew vl : ℕ) (f g : ℕ → ℕ) (x i : ℕ) → ((k : ℕ) → (strictly op ≡ true) ⊎ (i ≤ k) → f k ≡ g k)
+    → permutedOf op sew vl f x i ≡ permutedOf op sew vl g x i
+permuted-same Vid sew vl f g x i h = refl
+permuted-same Vslideup sew vl f g x i h = h _ (inl refl)
+permuted-same Vslidedown sew vl f g x i h = h _ (inr (omega arith))
+permuted-same Vslide1up sew vl f g x i h = rw (h (i - 1) (inl refl))
+permuted-same Vslide1down sew vl f g x i h = rw (h (i + 1) (inr (omega arith)))
+permuted-same Vrgather sew vl f g x i h = h _ (inl refl)
+permuted-same Vrgatherei16 sew vl f g x i h = h _ (inl refl)
 
 -- ---- a later element after that
 
@@ -158,13 +189,30 @@ module _ (b : Board) (r : List ℕ) (e : Elementwise) (j i : ℕ) (l : j < i) (m
     loads-same true z a p = absurd (subst T (sym p) tt)
     loads-same false z a p = refl
 
-    acting-registers : (act : Action) → writesRegisters act ≡ true → actingOf b r after e i act ≡ actingOf b r s e i act
+    -- vs2 where element i of a permutation may read it
+    vs2-same : (p : Permute) → MovedKept (b .vlenb) e (A.Permute p) → (z : ℕ) → (strictly (p .op) ≡ true) ⊎ (i ≤ z)
+        → vs2At (b .vlenb) (after .registers) (e .vs2) (p .vlmax) z ≡ vs2At (b .vlenb) (s .registers) (e .vs2) (p .vlmax) z
+    unfolding putOf
+    vs2-same p h z q = go (ltb z (p .vlmax)) refl
+      where
+        go : (t : Bool) → ltb z (p .vlmax) ≡ t
+            → cond t (valueOf (b .vlenb) (after .registers) (e .vs2) z) 0 ≡ cond t (valueOf (b .vlenb) (s .registers) (e .vs2) z) 0
+        go true t = h (s .registers) k j i z (x .value) n l m (ltb-true z (p .vlmax) t, q)
+        go false t = refl
+
+    acting-registers : (act : Action) → writesRegisters act ≡ true → MovedKept (b .vlenb) e act
+        → actingOf b r after e i act ≡ actingOf b r s e i act
     unfolding actingOf
-    acting-registers (A.Compute c) t = unfold putOf in
+    acting-registers (A.Compute c) t h = unfold putOf in
         let file : List ℕ = s .registers in
         let v : ℕ = x .value in
         rw (u .vs2 file k j i v n l m, u .vs1 file k j i v n l m, u .vd file k j i v n l m, u .v0 file k j i v n l m)
-    acting-registers (A.Transfer t) p =
+    acting-registers (A.Permute p) t h = unfold putOf in
+        rw (
+          u .vs1 (s .registers) k j i (x .value) n l m,
+          permuted-same (p .op) (p .sew) (e .end) _ _ (valueOf (b .vlenb) (s .registers) (e .vs1) i) i (vs2-same p h),
+        )
+    acting-registers (A.Transfer t) p h =
         loads-same (t .store) (t .bytes) _ p
         ∙ ap (λ (o : ℕ). transferring (b .vlenb) r s (t .store) (e .dest) (t .bytes) i (elementAddress t i o))
         (unfold putOf in u .vs2 (s .registers) k j i (x .value) n l m)
@@ -172,7 +220,7 @@ module _ (b : Board) (r : List ℕ) (e : Elementwise) (j i : ℕ) (l : j < i) (m
     registers-stable : writesRegisters (e .action) ≡ true → effectOf b r after e i ≡ effectOf b r s e i
     unfolding effectOf
     registers-stable p =
-        ap₂ (λ (t : Bool) (f : Effect Fault (List Write)). cond t f inactive) active-registers (acting-registers (e .action) p)
+        ap₂ (λ (t : Bool) (f : Effect Fault (List Write)). cond t f inactive) active-registers (acting-registers (e .action) p (u .moved))
 
   -- after one to memory: a store stores from registers
   module _ (s : Core) (a n x : ℕ) where
@@ -187,6 +235,7 @@ module _ (b : Board) (r : List ℕ) (e : Elementwise) (j i : ℕ) (l : j < i) (m
         → actingOf b r (putOf (b .vlenb) (toMemory a n x) s) e i act ≡ actingOf b r s e i act
     unfolding actingOf
     acting-memory (A.Compute k) p = absurd (subst T p tt)
+    acting-memory (A.Permute k) p = absurd (subst T p tt)
     acting-memory (A.Transfer t) p = unfold putOf in stores-same (t .store) (t .bytes) _ p
 
     memory-stable : writesRegisters (e .action) ≡ false → effectOf b r (putOf (b .vlenb) (toMemory a n x) s) e i ≡ effectOf b r s e i

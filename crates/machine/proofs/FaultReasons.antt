@@ -21,7 +21,7 @@ use Rattle.plan.specs.declared.Plan.{Plan}
 use Rattle.plan.specs.declared.Plan.the-variants as P
 use Rattle.turn_theory.specs.Turn.{Effect, inactive, fault, write}
 use Rattle.machine.specs.State.{Core}
-use Rattle.machine.specs.Effect.{Write, activeOf, ifGranted, actingOf, effectOf}
+use Rattle.machine.specs.Effect.{Write, valueOf, activeOf, staysAt, ifGranted, actingOf, effectOf}
 use Rattle.machine.specs.Machine.{effectAt}
 use Rattle.machine.specs.Demands.{isTrap, changesNothing}
 use Rattle.machine.specs.FaultPages.{ActionReason, PlanReason}
@@ -42,6 +42,8 @@ module _ (b : Board) (rights : List ℕ) (s : Core) where
       → Faulting (ActionReason rights (length (s .memory)) x) (actingOf b rights s e i x)
   unfolding actingOf
   acting-reason e i (A.Compute k) = tt
+  acting-reason e i (A.Permute p) =
+      either (Faulting (λ f. ⊥)) (staysAt (p .op) (valueOf (b .vlenb) (s .registers) (e .vs1) i) i) inactive _ (λ t. tt) (λ t. tt)
   acting-reason e i (A.Transfer t) =
       checked-reason _ _ _ (reasons .field rights (length (s .memory)) (t .store) _ (t .bytes) 0 (nfields (e .dest)))
 
@@ -75,6 +77,7 @@ module _ (rights : List ℕ) (memory : ℕ) where
 
   action-traps : (x : Action) (f : Fault) → ActionReason rights memory x f → trapOnly (f .answer) ≡ true
   action-traps (A.Compute k) f r = absurd r
+  action-traps (A.Permute p) f r = absurd r
   action-traps (A.Transfer t) f r = reason-traps (t .store) (t .bytes) f r
 
   plan-traps : (p : Plan) (f : Fault) → PlanReason rights memory p f → trapOnly (f .answer) ≡ true

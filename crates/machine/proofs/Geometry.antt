@@ -2,7 +2,7 @@
 -- later element of a source.
 use Prim.Native.Nat.{ℕ, zero, suc, _+_, _-_, _*_, _/_, _%_, _^_, _≤_, _<_, max}
 use mathlib.Core.Path.{_≡_, refl, sym, ap, _∙_, subst}
-use mathlib.Core.Logic.{inl, inr, ⊎-elim}
+use mathlib.Core.Logic.{_⊎_, inl, inr, ⊎-elim}
 use mathlib.Core.List.{List, [], _∷_}
 use mathlib.Core.Bool.{true, not, _||_}
 use native.Mathlib.Omega.{arith}
@@ -21,9 +21,10 @@ use Rattle.control.proofs.Laws.{lmul8-le, sew-ge, vlmax-le}
 use Rattle.layout.specs.Layout.{elementWidth, Inside}
 use Rattle.layout.proofs.ElementLaws.{Apart}
 use Rattle.group.specs.declared.Group.{Group}
-use Rattle.group.specs.Group.{emul8Of, maskGroup, registersOf, fieldGroup, spanOf, placedOf, mayOverlapOf}
+use Rattle.group.specs.Group.{emul8Of, maskGroup, registersOf, fieldGroup, spanOf, placedOf, apartOf, mayOverlapOf}
 use Rattle.group.proofs.GroupLaws.{Placed, placed-facts, MayOverlap, below, above, equal, lowest, highest, overlap-cases, same-or-apart}
-use Rattle.plan.specs.Plan.{groupsAt}
+use Rattle.group.proofs.GroupLaws.{field-apart}
+use Rattle.plan.specs.Plan.{groupsAt, registerAt}
 
 -- ---- powers of 2
 
@@ -245,6 +246,13 @@ inside vlenb end g k t m u l =
 pub bit-inside : (vlenb reg k : ℕ) → reg < 32 → k < 8 * vlenb → Inside (32 * vlenb) vlenb reg 1 k
 bit-inside vlenb reg k u l = inside vlenb (8 * vlenb) (maskGroup reg) k tt (omega arith) (omega arith) l
 
+-- element 0 of a register alone
+pub register-inside : (b : Board) (eew reg : ℕ) → Valid b → Power eew → 8 ≤ eew → eew ≤ b .elen → reg < 32
+    → Inside (32 * b .vlenb) (b .vlenb) reg eew 0
+register-inside b eew reg w p l m u =
+    inside (b .vlenb) 1 (registerAt eew reg) 0 (power-width eew p l (omega (arith, w .elen))) (omega (arith, w .within)) (omega arith)
+    (lit< tt)
+
 -- ---- the overlap rule
 
 -- groups of equal EEW have as many registers
@@ -270,6 +278,23 @@ same-registers vlmax vlenb d g u x y e =
           fewer (registersOf g) (registersOf d) (omega (arith, room, x .full (omega arith), y .full (omega arith))),
         )
 
+-- elements below VLMAX of a group d that is moved to another register, where no register is the other's: any two
+sides-apart : (vlmax vlenb : ℕ) (d g : Group) (reg j i : ℕ) → Extent vlmax vlenb d → Extent vlmax vlenb g → j < vlmax → i < vlmax
+    → (reg + registersOf d ≤ g .reg) ⊎ (g .reg + registersOf g ≤ reg) → Apart vlenb reg (d .eew) j (g .reg) (g .eew) i
+sides-apart vlmax vlenb d g reg j i x y l m h =
+    let p : (j + 1) * d .eew ≤ vlmax * d .eew = mul-le-mul-right (d .eew) (omega arith) in
+    let q : (i + 1) * g .eew ≤ vlmax * g .eew = mul-le-mul-right (g .eew) (omega arith) in
+    ⊎-elim
+    (λ t. inl (omega (arith, p, x .within, mul-le-mul-right (8 * vlenb) t)))
+    (λ t. inr (omega (arith, q, y .within, mul-le-mul-right (8 * vlenb) t)))
+    h
+
+-- of a destination and a source that have no register in common
+pub groups-apart : (vlmax vlenb : ℕ) (d g : Group) (k j i : ℕ) → Extent vlmax vlenb d → Extent vlmax vlenb g → k ≤ d .nf
+    → j < vlmax → i < vlmax → apartOf d g ≡ true → Apart vlenb (fieldGroup d k .reg) (d .eew) j (g .reg) (g .eew) i
+groups-apart vlmax vlenb d g k j i x y n l m h =
+    sides-apart vlmax vlenb d g (fieldGroup d k .reg) j i x y l m (field-apart d g k n h)
+
 -- THE OVERLAP RULE SUFFICES, at every pair of EEWs: element j of any field of the destination has no bit of a later element i of the source
 pub overlap-apart : (vlmax vlenb : ℕ) (d g : Group) (k j i : ℕ) → 1 ≤ vlenb → Extent vlmax vlenb d → Extent vlmax vlenb g → k ≤ d .nf
     → j < i → i < vlmax → mayOverlapOf d g ≡ true → Apart vlenb (fieldGroup d k .reg) (d .eew) j (g .reg) (g .eew) i
@@ -279,21 +304,12 @@ overlap-apart vlmax vlenb d g k j i u x y n l m h = by-case (overlap-cases d g k
     From : ℕ → Type 0
     From reg = Apart vlenb reg (d .eew) j (g .reg) (g .eew) i
 
-    -- the elements lie inside their groups, and j is before i
-    d-inside : (j + 1) * d .eew ≤ registersOf d * (8 * vlenb)
-    d-inside = let q : (j + 1) * d .eew ≤ vlmax * d .eew = mul-le-mul-right (d .eew) (omega arith) in omega (arith, x .within)
-
-    g-inside : (i + 1) * g .eew ≤ registersOf g * (8 * vlenb)
-    g-inside = let q : (i + 1) * g .eew ≤ vlmax * g .eew = mul-le-mul-right (g .eew) (omega arith) in omega (arith, y .within)
-
+    -- j is before i
     before : (e : ℕ) → (j + 1) * e ≤ i * e
     before e = mul-le-mul-right e (omega arith)
 
-    below-apart : (reg : ℕ) → reg + registersOf d ≤ g .reg → From reg
-    below-apart reg t = inl (omega (arith, d-inside, mul-le-mul-right (8 * vlenb) t))
-
-    above-apart : (reg : ℕ) → g .reg + registersOf g ≤ reg → From reg
-    above-apart reg t = inr (omega (arith, g-inside, mul-le-mul-right (8 * vlenb) t))
+    beside : (reg : ℕ) → (reg + registersOf d ≤ g .reg) ⊎ (g .reg + registersOf g ≤ reg) → From reg
+    beside reg t = sides-apart vlmax vlenb d g reg j i x y (omega arith) m t
 
     -- from the same register on, at no larger EEW
     lowest-apart : d .eew ≤ g .eew → d .reg ≡ g .reg → From (d .reg)
@@ -317,11 +333,11 @@ overlap-apart vlmax vlenb d g k j i u x y n l m h = by-case (overlap-cases d g k
         ))
 
     by-case : MayOverlap d g k → From (fieldGroup d k .reg)
-    by-case (below t) = below-apart (fieldGroup d k .reg) t
-    by-case (above t) = above-apart (fieldGroup d k .reg) t
+    by-case (below t) = beside (fieldGroup d k .reg) (inl t)
+    by-case (above t) = beside (fieldGroup d k .reg) (inr t)
     by-case (equal z e) =
         subst From (sym z)
-        (⊎-elim (lowest-apart (omega arith)) (⊎-elim (below-apart (d .reg)) (above-apart (d .reg)))
+        (⊎-elim (lowest-apart (omega arith)) (beside (d .reg))
         (same-or-apart d g (same-registers vlmax vlenb d g u x y e) (x .aligned) (y .aligned)))
     by-case (lowest z t e) = subst From (sym z) (lowest-apart (omega arith) e)
     by-case (highest z t e k) = subst From (sym z) (highest-apart t e k)

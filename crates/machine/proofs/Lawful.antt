@@ -31,7 +31,7 @@ use Rattle.turn_theory.specs.Turn.{write, faults, uncutAllowance}
 use Rattle.turn_theory.specs.Claims.{Lawful}
 use Rattle.machine.specs.State.{Core}
 use Rattle.machine.specs.Effect.{Write, toRegisters, toMemory, saturating, putOf, putAll}
-use Rattle.machine.specs.Machine.{endOf, effectAt, orIllegal, rejectionAt, Opened, semanticsOf}
+use Rattle.machine.specs.Machine.{endOf, effectAt, resultAt, orIllegal, rejectionAt, Opened, semanticsOf}
 use Rattle.machine.proofs.PlanFacts.{PlanSound}
 use Rattle.machine.proofs.EffectLaws.{effect-opened, all-keep, effect-stable}
 
@@ -81,6 +81,8 @@ legal-vxsat b c sat P.Illegal = refl
 legal-vxsat b c sat (P.OneTurn (O.Setting t)) = refl
 legal-vxsat b c sat (P.OneTurn (O.Mask m)) = refl
 legal-vxsat b c sat (P.OneTurn (O.Reduction r)) = refl
+legal-vxsat b c sat (P.OneTurn (O.Packing p)) = refl
+legal-vxsat b c sat (P.OneTurn (O.ScalarMove m)) = refl
 legal-vxsat b c sat (P.Elements e) = refl
 
 fourth-true : (p q r t u : Bool) → (p && (q && (r && (t && u)))) ≡ true → (p && (q && (r && u))) ≡ true
@@ -157,6 +159,12 @@ module _ (b : Board) (w : Valid b) where
   raised (P.OneTurn t) r r′ s k o h = refl
   raised (P.Elements e) r r′ s k o h = effect-opened b r r′ s e k o h
 
+  -- an instruction of elements does nothing when it finishes, whatever vstart was
+  finish-any : (p : Plan) (s : Core) (v u : ℕ) → 0 < endOf p → resultAt b p v s ≡ resultAt b p u s
+  finish-any P.Illegal s v u l = refl
+  finish-any (P.OneTurn t) s v u l = absurd (omega arith)
+  finish-any (P.Elements e) s v u l = refl
+
   bounded : (p : Plan) → PlanSound b p → endOf p ≤ uncutAllowance
   bounded P.Illegal d = omega arith
   bounded (P.OneTurn t) d = omega arith
@@ -172,6 +180,7 @@ module _ (b : Board) (w : Valid b) where
         raised = raised p;
         raised-legal = λ r r′ s v o h. facts-legal b p r′ s v (opened-facts b p r r′ s v o (facts b p r s v h));
         bounded = λ r s v h. bounded p d;
+        finish-any = finish-any p;
         opens-trans = λ r r′ r″ o q. record {
           as-many = q .as-many ∙ o .as-many;
           at-least = λ k. omega (arith, o .at-least k, q .at-least k);

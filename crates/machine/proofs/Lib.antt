@@ -1,4 +1,5 @@
 pub mod Geometry
+pub mod Writing
 pub mod PlanFacts
 pub mod EffectLaws
 pub mod Lawful

@@ -1,13 +1,13 @@
 -- A legal plan of elements: what it writes at one element leaves what a later element reads as it was.
 use Prim.Native.Nat.{ℕ, _*_, _/_, _≤_, _<_}
 use mathlib.Core.Path.{_≡_, refl, sym, subst}
-use mathlib.Core.Logic.{⊎-elim}
+use mathlib.Core.Logic.{_⊎_, ⊎-elim}
 use mathlib.Core.List.{List}
 use mathlib.Core.Bool.{Bool, true, false, not, _||_, cond}
 use native.Mathlib.Omega.{arith}
-use native.Mathlib.Nat.{div-le-of-le-mul, mul-le-mul-right}
+use native.Mathlib.Nat.{div-le-of-le-mul, mul-le-mul-right, le-refl}
 use lib.Dec.{T, eqb, lit≤}
-use Rattle.laws.proofs.Apart.{both-left, both-right}
+use Rattle.laws.proofs.Apart.{both-left, both-right, or-cases}
 use Rattle.laws.proofs.Chain.{either}
 use Rattle.operation.specs.declared.Size.{Size}
 use Rattle.operation.specs.declared.Size.the-variants.{Absent, Bit, Eighth, Quarter, Half, Single, Double}
@@ -25,34 +25,41 @@ use Rattle.decode.specs.declared.Source.{Source}
 use Rattle.decode.specs.declared.Source.the-variants.{Vector, Scalar, Immediate}
 use Rattle.decode.specs.declared.Mode.{Mode}
 use Rattle.decode.specs.declared.Mode.the-variants as M
+use Rattle.decode.specs.declared.PermutationOp.{PermutationOp}
+use Rattle.decode.specs.declared.PermutationOp.the-variants.{Vid, Vslideup, Vslidedown, Vslide1up, Vslide1down, Vrgather, Vrgatherei16}
+use Rattle.decode.specs.declared.PermutationInstruction.{PermutationInstruction}
 use Rattle.decode.specs.declared.Instruction.{Instruction}
 use Rattle.decode.specs.declared.Instruction.the-variants as I
 use Rattle.decode.specs.Fields.{ModeFits, AccessFits, Fits}
-use Rattle.layout.specs.Layout.{withElement, elementWidth}
+use Rattle.layout.specs.Layout.{withElement, elementWidth, Inside}
 use Rattle.layout.proofs.ElementLaws as Element
+use Rattle.layout.proofs.ElementLaws.{Apart}
 use Rattle.group.specs.declared.Group.{Group}
-use Rattle.group.specs.Group.{maskGroup, fieldGroup, placedOf, mayOverlapOf, sparesV0}
+use Rattle.group.specs.Group.{maskGroup, fieldGroup, placedOf, apartOf, mayOverlapOf, sparesV0}
 use Rattle.plan.specs.declared.Read.{Read}
 use Rattle.plan.specs.declared.Read.the-variants as R
+use Rattle.plan.specs.declared.Action.{Action}
 use Rattle.plan.specs.declared.Action.the-variants as A
+use Rattle.plan.specs.declared.Permute.{Permute}
 use Rattle.plan.specs.declared.Transfer.{Transfer}
 use Rattle.plan.specs.declared.Elementwise.{Elementwise}
 use Rattle.plan.proofs.AccessLaws.{one-of, eew-low, whole-le}
 use Rattle.plan.specs.declared.Plan.{Plan}
 use Rattle.plan.specs.declared.Plan.the-variants as P
 use Rattle.plan.specs.Plan.{groupAt, groupsAt, readAt, groupOf, secondOf, v0Read, shapedOf, computingOf, movingOf, byMode, planOf}
-use Rattle.legality.specs.Legal.{readFits, writesRegisters, isBit, operandsFit}
+use Rattle.plan.specs.Plan.{indexOf, movedElements, movedBy, permutingOf}
+use Rattle.legality.specs.Legal.{overlapFits, readFits, writesRegisters, strictly, isStrict, isBit, operandsFit}
 use Rattle.machine.specs.Effect.{valueOf}
 use Rattle.machine.proofs.Geometry.{Power, power-of, product-power, quotient-power, quotient-low, sew-power, Extent, mask-extent}
-use Rattle.machine.proofs.Geometry.{placed-extent, extent, overlap-apart, v0-apart}
+use Rattle.machine.proofs.Geometry.{placed-extent, extent, inside, groups-apart, overlap-apart, v0-apart}
 
 -- ---- legality taken apart
 
 pub record Legal (elen : ℕ) (writes : Bool) (e : Elementwise) : Type 0 where
   pub dest : (eqb (e .dest .eew) 1 || placedOf elen (e .dest)) ≡ true
-  pub vs2 : readFits elen writes (e .dest) (e .vs2) ≡ true
-  pub vs1 : readFits elen writes (e .dest) (e .vs1) ≡ true
-  pub vd : readFits elen writes (e .dest) (e .vd) ≡ true
+  pub vs2 : readFits elen writes (isStrict (e .action)) (e .dest) (e .vs2) ≡ true
+  pub vs1 : readFits elen writes (isStrict (e .action)) (e .dest) (e .vs1) ≡ true
+  pub vd : readFits elen writes (isStrict (e .action)) (e .dest) (e .vd) ≡ true
   pub v0 : (not writes || sparesV0 (e .masked || isBit (e .v0)) (e .dest)) ≡ true
 
 pub legal-at : (elen : ℕ) (e : Elementwise) → operandsFit elen e ≡ true → Legal elen (writesRegisters (e .action)) e
@@ -74,7 +81,7 @@ part v k reg l u p =
     element (sewOf v / k) reg 0 (quotient-power (sewOf v) k (sew-power v) p (quotient-low (sewOf v) k l (omega (arith, sew-ge v))))
     (λ e. refl)
 
-read-operand : (v : ℕ) (size : Size) (reg : ℕ) → Operand v (readAt v size reg)
+pub read-operand : (v : ℕ) (size : Size) (reg : ℕ) → Operand v (readAt v size reg)
 unfolding readAt
 read-operand v Absent reg = constant 0
 read-operand v Bit reg = bit reg
@@ -90,6 +97,12 @@ second-operand x v size unsigned (Vector r) = read-operand v size r
 second-operand x v size unsigned (Scalar r) = constant _
 second-operand x v size unsigned (Immediate n) = constant _
 
+index-operand : (x : List ℕ) (v eew : ℕ) (s : Source) → Power eew → Operand v (indexOf x v eew s)
+unfolding indexOf
+index-operand x v eew (Vector r) p = element eew r 0 p (λ e. refl)
+index-operand x v eew (Scalar r) p = constant _
+index-operand x v eew (Immediate n) p = constant n
+
 if-operand : (v : ℕ) (t : Bool) (r : Read) → Operand v r → Operand v (cond t r (R.Constant 0))
 if-operand v t r o = either (Operand v) t r (R.Constant 0) (λ h. o) (λ h. constant 0)
 
@@ -100,12 +113,25 @@ Kept vlenb end d r =
     (file : List ℕ) (k j i x : ℕ) → k ≤ d .nf → j < i → i < end
     → valueOf vlenb (withElement vlenb file (fieldGroup d k .reg) (d .eew) j x) r i ≡ valueOf vlenb file r i
 
+-- the elements k of vs2 that element i of a permutation may read: below VLMAX, and from i up unless vs2 is no part of the destination
+abbrev pub Reaches : Permute → ℕ → ℕ → Type 0
+Reaches p i k = (k < p .vlmax) × ((strictly (p .op) ≡ true) ⊎ (i ≤ k))
+
+-- those too are read as before
+abbrev pub MovedKept : ℕ → Elementwise → Action → Type 0
+MovedKept vlenb e (A.Compute k) = Unit {0}
+MovedKept vlenb e (A.Permute p) =
+    (file : List ℕ) (f j i k x : ℕ) → f ≤ e .dest .nf → j < i → i < e .end → Reaches p i k
+    → valueOf vlenb (withElement vlenb file (fieldGroup (e .dest) f .reg) (e .dest .eew) j x) (e .vs2) k ≡ valueOf vlenb file (e .vs2) k
+MovedKept vlenb e (A.Transfer t) = Unit {0}
+
 pub record Undisturbed (vlenb : ℕ) (e : Elementwise) : Type 0 where
   pub vs2 : Kept vlenb (e .end) (e .dest) (e .vs2)
   pub vs1 : Kept vlenb (e .end) (e .dest) (e .vs1)
   pub vd : Kept vlenb (e .end) (e .dest) (e .vd)
   pub v0 : Kept vlenb (e .end) (e .dest) (e .v0)
   pub mask : e .masked ≡ true → Kept vlenb (e .end) (e .dest) (R.Bit 0)
+  pub moved : MovedKept vlenb e (e .action)
 
 constant-kept : (vlenb end : ℕ) (d : Group) (n : ℕ) → Kept vlenb end d (R.Constant n)
 unfolding valueOf
@@ -148,6 +174,14 @@ v0-kept : (vlenb end : ℕ) (d : Group) (m : Bool) (r : Read) → T (elementWidt
 v0-kept vlenb end d m _ t l unused h = constant-kept vlenb end d 0
 v0-kept vlenb end d m _ t l used h = bit-kept vlenb end d t l (v0-spared m d h)
 
+-- how a source may overlap: apart, where the instruction is strict, and in any case as the overlap rule has it
+strict-apart : (d g : Group) → overlapFits true d g ≡ true → apartOf d g ≡ true
+strict-apart d g h = ⊎-elim (λ t. t) (λ t. absurd (subst T (sym t) tt)) (or-cases (apartOf d g) _ h)
+
+overlap-of : (strict : Bool) (d g : Group) → overlapFits strict d g ≡ true → mayOverlapOf d g ≡ true
+unfolding mayOverlapOf
+overlap-of strict d g h = ⊎-elim (λ t. rw t) (λ t. both-right (not strict) _ t) (or-cases (apartOf d g) _ h)
+
 -- ---- at a supported vtype v
 
 module _ (b : Board) (v : ℕ) (w : Valid b) (h : supportedOf b v ≡ true) where
@@ -157,26 +191,49 @@ module _ (b : Board) (v : ℕ) (w : Valid b) (h : supportedOf b v ≡ true) wher
   dest-extent _ (bit reg) t = mask-extent b v reg
   dest-extent _ (element eew reg nf p z) t = extent b v w h eew p reg nf z t
 
-  module _ (end : ℕ) (d : Group) (most : end ≤ vlmaxOf b v) (x : Extent (vlmaxOf b v) (b .vlenb) d) where
-    source-kept : (g : Group) → Extent (vlmaxOf b v) (b .vlenb) g → mayOverlapOf d g ≡ true → Kept (b .vlenb) end d (R.Element g)
-    unfolding valueOf
-    source-kept g y o file k j i n m l u =
-        Element.apart (b .vlenb) file (fieldGroup d k .reg) (d .eew) j n (g .reg) (g .eew) i (x .width) (y .width)
-        (overlap-apart (vlmaxOf b v) (b .vlenb) d g k j i (w .some) x y m l (omega arith) o)
+  module _ (d : Group) (x : Extent (vlmaxOf b v) (b .vlenb) d) where
+    -- an element j of a field of the destination has no bit of element i of a source that may overlap it so, where R says it of j and i
+    abbrev ApartWhere : (ℕ → ℕ → Type 0) → Bool → Type 0
+    ApartWhere R strict = (g : Group) → Extent (vlmaxOf b v) (b .vlenb) g → overlapFits strict d g ≡ true
+        → (k j i : ℕ) → k ≤ d .nf → R j i → Apart (b .vlenb) (fieldGroup d k .reg) (d .eew) j (g .reg) (g .eew) i
 
-    -- a bit reads as an element of a mask register
-    mask-kept : (reg : ℕ) → mayOverlapOf d (maskGroup reg) ≡ true → Kept (b .vlenb) end d (R.Bit reg)
-    unfolding valueOf
-    mask-kept reg o = source-kept (maskGroup reg) (mask-extent b v reg) o
-
-    operand-kept : (r : Read) → Operand v r → readFits (b .elen) true d r ≡ true → Kept (b .vlenb) end d r
-    unfolding readFits
-    operand-kept _ (constant n) t = constant-kept (b .vlenb) end d n
-    operand-kept _ (bit reg) t = mask-kept reg t
-    operand-kept _ (element eew reg nf p z) t =
+    -- then element i is read as before. A bit reads as an element of a mask register
+    kept-where : (R : ℕ → ℕ → Type 0) (strict : Bool) → ApartWhere R strict → (r : Read) → Operand v r
+        → readFits (b .elen) true strict d r ≡ true → (file : List ℕ) (k j i n : ℕ) → k ≤ d .nf → R j i
+        → valueOf (b .vlenb) (withElement (b .vlenb) file (fieldGroup d k .reg) (d .eew) j n) r i ≡ valueOf (b .vlenb) file r i
+    unfolding valueOf readFits
+    kept-where R strict f _ (constant m) t file k j i n l u = refl
+    kept-where R strict f _ (bit reg) t file k j i n l u =
+        Element.apart (b .vlenb) file (fieldGroup d k .reg) (d .eew) j n reg 1 i (x .width) tt
+        (f (maskGroup reg) (mask-extent b v reg) t k j i l u)
+    kept-where R strict f _ (element eew reg nf p z) t file k j i n l u =
         let g : Group = groupsAt v eew reg nf in
-        let q : placedOf (b .elen) g ≡ true = both-left (placedOf (b .elen) g) (mayOverlapOf d g) t in
-        source-kept g (placed-extent b v w h eew p reg nf q) (both-right (placedOf (b .elen) g) (mayOverlapOf d g) t)
+        let y = placed-extent b v w h eew p reg nf (both-left (placedOf (b .elen) g) (overlapFits strict d g) t) in
+        Element.apart (b .vlenb) file (fieldGroup d k .reg) (d .eew) j n reg eew i (x .width) (y .width)
+        (f g y (both-right (placedOf (b .elen) g) (overlapFits strict d g) t) k j i l u)
+
+    -- later elements, whatever the instruction
+    operand-kept : (end : ℕ) (strict : Bool) → end ≤ vlmaxOf b v → (r : Read) → Operand v r → readFits (b .elen) true strict d r ≡ true
+        → Kept (b .vlenb) end d r
+    operand-kept end strict most r o t file k j i n m l u =
+        kept-where (λ j i. (j < i) × (i < end)) strict
+        (λ g y q k j i m s. overlap-apart (vlmaxOf b v) (b .vlenb) d g k j i (w .some) x y m (s .0) (omega arith) (overlap-of strict d g q))
+        r o t file k j i n m (l, u)
+
+    -- every element below VLMAX, where the instruction is strict
+    pub strictly-kept : (r : Read) → Operand v r → readFits (b .elen) true true d r ≡ true → (file : List ℕ) (k j i n : ℕ) → k ≤ d .nf
+        → j < vlmaxOf b v → i < vlmaxOf b v
+        → valueOf (b .vlenb) (withElement (b .vlenb) file (fieldGroup d k .reg) (d .eew) j n) r i ≡ valueOf (b .vlenb) file r i
+    strictly-kept r o t file k j i n m l u =
+        kept-where (λ j i. (j < vlmaxOf b v) × (i < vlmaxOf b v)) true
+        (λ g y q k j i m s. groups-apart (vlmaxOf b v) (b .vlenb) d g k j i x y m (s .0) (s .1) (strict-apart d g q))
+        r o t file k j i n m (l, u)
+
+-- a permutation reads below VLMAX
+abbrev pub ReachFits : ℕ → Action → Type 0
+ReachFits vlmax (A.Compute k) = Unit {0}
+ReachFits vlmax (A.Permute p) = p .vlmax ≡ vlmax
+ReachFits vlmax (A.Transfer t) = Unit {0}
 
 -- an instruction whose operands go by a supported vtype v
 pub record Typed (b : Board) (v : ℕ) (e : Elementwise) : Type 0 where
@@ -189,6 +246,7 @@ pub record Typed (b : Board) (v : ℕ) (e : Elementwise) : Type 0 where
   pub vs1 : Operand v (e .vs1)
   pub vd : Operand v (e .vd)
   pub v0 : OfV0 (e .v0)
+  pub reach : ReachFits (vlmaxOf b v) (e .action)
 
 pub typed-extent : (b : Board) (v : ℕ) (e : Elementwise) → Valid b → Typed b v e
     → (eqb (e .dest .eew) 1 || placedOf (b .elen) (e .dest)) ≡ true
@@ -197,22 +255,46 @@ typed-extent b v e w y =
     subst (λ (g : Group). (eqb (g .eew) 1 || placedOf (b .elen) g) ≡ true → Extent (vlmaxOf b v) (b .vlenb) g) (sym (y .dest))
     (dest-extent b v w (y .supported) (y .written) (y .operand))
 
+-- NO ELEMENT OF A PERMUTATION CHANGES WHAT A LATER ONE READS: a slide down reads from its own index up, and what else moves is strict
+moved-kept : (b : Board) (v : ℕ) (e : Elementwise) → Valid b → Typed b v e → Extent (vlmaxOf b v) (b .vlenb) (e .dest) → (a : Action)
+    → ReachFits (vlmaxOf b v) a → readFits (b .elen) true (isStrict a) (e .dest) (e .vs2) ≡ true → MovedKept (b .vlenb) e a
+moved-kept b v e w y x (A.Compute k) q t = tt
+moved-kept b v e w y x (A.Transfer z) q t = tt
+moved-kept b v e w y x (A.Permute p) q t = λ file f j i k n m l u r.
+    ⊎-elim
+    (λ s. strictly-kept b v w (y .supported) (e .dest) x (e .vs2) (y .vs2)
+    (subst (λ z. readFits (b .elen) true z (e .dest) (e .vs2) ≡ true) s t) file f j k n m (omega (arith, y .end)) (omega (arith, r .0)))
+    (λ s. operand-kept b v w (y .supported) (e .dest) x (vlmaxOf b v) (strictly (p .op)) (le-refl _) (e .vs2) (y .vs2) t file f j k n m
+    (omega arith) (omega (arith, r .0)))
+    (r .1)
+
 undisturbed : (b : Board) (v : ℕ) (e : Elementwise) → Valid b → Typed b v e → Legal (b .elen) true e → Undisturbed (b .vlenb) e
 undisturbed b v e w y l =
     let x = typed-extent b v e w y (l .dest) in
     let most : e .end ≤ 8 * b .vlenb = omega (arith, y .end, vlmax-le b v) in
-    let kept = operand-kept b v w (y .supported) (e .end) (e .dest) (y .end) x in
+    let kept = operand-kept b v w (y .supported) (e .dest) x (e .end) (isStrict (e .action)) (y .end) in
     record {
       vs2 = kept (e .vs2) (y .vs2) (l .vs2);
       vs1 = kept (e .vs1) (y .vs1) (l .vs1);
       vd = kept (e .vd) (y .vd) (l .vd);
       v0 = v0-kept (b .vlenb) (e .end) (e .dest) (e .masked) (e .v0) (x .width) most (y .v0) (l .v0);
       mask = λ t. bit-kept (b .vlenb) (e .end) (e .dest) (x .width) most (mask-spared (e .masked) (e .v0) (e .dest) (l .v0) t);
+      moved = moved-kept b v e w y x (e .action) (y .reach) (l .vs2);
     }
 
 -- where vl is not 0, vtype is supported
 pub supported : (b : Board) (c : Control) → Possible b c → 0 < c .vl → (supportedOf b (c .vtype) ≡ true) × (c .vl ≤ vlmaxOf b (c .vtype))
 supported b c t l = ⊎-elim (λ q. absurd (omega arith)) (λ q. q) (typed-well-apart b c (t .typed))
+
+-- element i of a group of SEW bits, below vl
+pub element-inside : (b : Board) (c : Control) → Valid b → Possible b c → (reg i : ℕ)
+    → placedOf (b .elen) (groupAt (c .vtype) (sewOf (c .vtype)) reg) ≡ true → reg < 32 → i < c .vl
+    → Inside (32 * b .vlenb) (b .vlenb) reg (sewOf (c .vtype)) i
+element-inside b c w t reg i h u l =
+    let s = supported b c t (omega arith) in
+    let v : ℕ = c .vtype in
+    let x = placed-extent b v w (s .0) (sewOf v) (sew-power v) reg 0 h in
+    inside (b .vlenb) (vlmaxOf b v) (groupAt v (sewOf v) reg) i (x .width) (x .within) (omega (arith, x .ends u)) (omega (arith, s .1))
 
 -- ---- arithmetic
 
@@ -233,6 +315,46 @@ computing-typed b x c a t l =
       vs1 = second-operand x (c .vtype) (o .vs1) (o .unsigned) (a .source);
       vd = if-operand (c .vtype) (o .accumulates) (readAt (c .vtype) (o .vd) (a .vd)) d;
       v0 = v0-of (o .v0) (a .masked);
+      reach = tt;
+    }
+
+-- ---- permutations
+
+elements-operand : (v : ℕ) (op : PermutationOp) (reg : ℕ) → Operand v (movedElements v op reg)
+elements-operand v Vid reg = constant 0
+elements-operand v Vslideup reg = read-operand v Single reg
+elements-operand v Vslidedown reg = read-operand v Single reg
+elements-operand v Vslide1up reg = read-operand v Single reg
+elements-operand v Vslide1down reg = read-operand v Single reg
+elements-operand v Vrgather reg = read-operand v Single reg
+elements-operand v Vrgatherei16 reg = read-operand v Single reg
+
+by-operand : (x : List ℕ) (v : ℕ) (op : PermutationOp) (s : Source) → Operand v (movedBy x v op s)
+by-operand x v Vid s = constant 0
+by-operand x v Vslideup s = index-operand x v (sewOf v) s (sew-power v)
+by-operand x v Vslidedown s = index-operand x v (sewOf v) s (sew-power v)
+by-operand x v Vslide1up s = second-operand x v Single true s
+by-operand x v Vslide1down s = second-operand x v Single true s
+by-operand x v Vrgather s = index-operand x v (sewOf v) s (sew-power v)
+by-operand x v Vrgatherei16 s = index-operand x v 16 s (power-of 4)
+
+pub permuting-typed : (b : Board) (x : List ℕ) (c : Control) (a : PermutationInstruction) → Possible b c
+    → 0 < permutingOf b x c a .end → Typed b (c .vtype) (permutingOf b x c a)
+unfolding permutingOf
+permuting-typed b x c a t l =
+    let v : ℕ = c .vtype in
+    let s = supported b c t l in
+    record {
+      supported = s .0;
+      end = s .1;
+      written = R.Element (groupAt v (sewOf v) (a .vd));
+      operand = element (sewOf v) (a .vd) 0 (sew-power v) (λ e. refl);
+      dest = refl;
+      vs2 = elements-operand v (a .op) (a .vs2);
+      vs1 = by-operand x v (a .op) (a .source);
+      vd = constant 0;
+      v0 = unused;
+      reach = refl;
     }
 
 -- ---- loads and stores
@@ -271,6 +393,7 @@ module _ (b : Board) (x : List ℕ) (c : Control) (a : Access) (w : Valid b) (t 
         vs1 = constant 0;
         vd = if-operand (c .vtype) (z .store) (R.Element (groupsAt (c .vtype) eew (a .vd) (a .nf))) d;
         v0 = unused;
+        reach = tt;
       }
 
   abbrev Goes : Mode → Type 0
@@ -306,6 +429,7 @@ module _ (b : Board) (x : List ℕ) (c : Control) (a : Access) (w : Valid b) (t 
             (λ p. absurd (subst T (sym (rw p at r)) tt)) (λ p. same 0);
         v0 = same 0;
         mask = λ q. bit-kept (b .vlenb) end g k m (mask-spared (a .masked) (R.Constant 0) g (legal-facts (b .elen) e h r .v0) q);
+        moved = tt;
       }
 
   mode-undisturbed : (m : Mode) → ModeFits m
@@ -338,13 +462,25 @@ computing-sound b x c a w t = record {
       λ h l r. undisturbed b (c .vtype) (computingOf x c a) w (computing-typed b x c a t l) (legal-facts (b .elen) (computingOf x c a) h r);
 }
 
+permuting-sound : (b : Board) (x : List ℕ) (c : Control) (a : PermutationInstruction) → Valid b → Possible b c
+    → Sound b (permutingOf b x c a)
+unfolding permutingOf
+permuting-sound b x c a w t = record {
+  end = t .vl;
+  undisturbed = λ h l r. undisturbed b (c .vtype) (permutingOf b x c a) w (permuting-typed b x c a t l)
+      (legal-facts (b .elen) (permutingOf b x c a) h r);
+}
+
 pub plan-sound : (b : Board) (x : List ℕ) (c : Control) (i : Instruction) → Valid b → Possible b c → Fits i → PlanSound b (planOf b x c i)
 unfolding planOf
 plan-sound b x c I.Illegal w t f = tt
 plan-sound b x c (I.Setting s) w t f = tt
 plan-sound b x c (I.Mask m) w t f = tt
 plan-sound b x c (I.Reduction a) w t f = tt
+plan-sound b x c (I.Pack a) w t f = tt
+plan-sound b x c (I.ScalarMove a) w t f = tt
 plan-sound b x c (I.Arithmetic a) w t f = computing-sound b x c a w t
+plan-sound b x c (I.Permutation a) w t f = permuting-sound b x c a w t
 plan-sound b x c (I.Memory a) w t f = record {
   end = mode-end b x c a w t f (a .mode) (f .mode);
   undisturbed = mode-undisturbed b x c a w t f (a .mode) (f .mode);

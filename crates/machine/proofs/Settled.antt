@@ -20,11 +20,14 @@ use Rattle.control.proofs.Laws.{possible-apart}
 use Rattle.decode.specs.declared.MaskOp.{MaskOp}
 use Rattle.decode.specs.declared.MaskOp.the-variants.{Vcpop, Vfirst, Vmsbf, Vmsof, Vmsif}
 use Rattle.decode.specs.declared.MaskInstruction.{MaskInstruction}
+use Rattle.decode.specs.declared.ScalarMoveOp.{ScalarMoveOp}
+use Rattle.decode.specs.declared.ScalarMoveOp.the-variants.{VmvXS, VmvSX}
 use Rattle.access.specs.declared.Fault.{Fault}
 use Rattle.refusal.specs.Refusal.{refusalOf}
 use Rattle.plan.specs.declared.Action.{Action}
 use Rattle.plan.specs.declared.Action.the-variants as A
 use Rattle.plan.specs.declared.Elementwise.{Elementwise}
+use Rattle.plan.specs.declared.ScalarMove.{ScalarMove}
 use Rattle.plan.specs.declared.OneTurn.the-variants as O
 use Rattle.plan.specs.declared.Plan.{Plan}
 use Rattle.plan.specs.declared.Plan.the-variants as P
@@ -35,7 +38,7 @@ use Rattle.turn_theory.specs.Claims.{Unseen}
 use Rattle.turn_theory.proofs.Laws.{turn-cases, written-keeps}
 use Rattle.machine.specs.State.{Core, withControl}
 use Rattle.machine.specs.Effect.{Write, toRegisters, toMemory, putOf, putAll, actingOf, effectOf}
-use Rattle.machine.specs.OneTurn.{typeFrom, avlFrom, settingResult, maskResult, oneTurnResult}
+use Rattle.machine.specs.OneTurn.{typeFrom, avlFrom, settingResult, maskResult, scalarMoveResult, oneTurnResult}
 use Rattle.machine.specs.Machine.{effectAt, resultAt, rejectionAt, semanticsOf, vsAfter}
 use Rattle.machine.proofs.EffectLaws.{all-keep}
 use Rattle.machine.proofs.Lawful.{facts}
@@ -81,6 +84,8 @@ kind-settled b c v P.Illegal = refl
 kind-settled b c v (P.OneTurn (O.Setting t)) = refl
 kind-settled b c v (P.OneTurn (O.Mask m)) = refl
 kind-settled b c v (P.OneTurn (O.Reduction r)) = refl
+kind-settled b c v (P.OneTurn (O.Packing p)) = refl
+kind-settled b c v (P.OneTurn (O.ScalarMove m)) = refl
 kind-settled b c v (P.Elements e) = refl
 
 legal-settled : (b : Board) (c : Control) (p : Plan) → legalOf b (asDirty c) p ≡ legalOf b c p
@@ -103,6 +108,7 @@ acting-settled : (b : Board) (r : List ℕ) (s : Core) (e : Elementwise) (k : �
     → actingOf b r (settled s) e k a ≡ actingOf b r s e k a
 unfolding actingOf
 acting-settled b r s e k (A.Compute c) = refl
+acting-settled b r s e k (A.Permute p) = refl
 acting-settled b r s e k (A.Transfer t) = refl
 
 effect-settled : (b : Board) (p : Plan) (r : List ℕ) (s : Core) (k : ℕ) → effectAt b p r (settled s) k ≡ effectAt b p r s k
@@ -142,14 +148,22 @@ mask-settled vlenb vl m s Vmsbf = refl
 mask-settled vlenb vl m s Vmsof = refl
 mask-settled vlenb vl m s Vmsif = refl
 
-result-settled : (b : Board) (p : Plan) (s : Core) → resultAt b p (settled s) ≡ settled (resultAt b p s)
+move-settled : (vlenb : ℕ) (m : ScalarMove) (v : ℕ) (s : Core) (o : ScalarMoveOp)
+    → scalarMoveResult vlenb m v (settled s) o ≡ settled (scalarMoveResult vlenb m v s o)
+unfolding scalarMoveResult
+move-settled vlenb m v s VmvXS = refl
+move-settled vlenb m v s VmvSX = refl
+
+result-settled : (b : Board) (p : Plan) (v : ℕ) (s : Core) → resultAt b p v (settled s) ≡ settled (resultAt b p v s)
 unfolding oneTurnResult settingResult
-result-settled b P.Illegal s = refl
-result-settled b (P.OneTurn (O.Setting t)) s =
+result-settled b P.Illegal v s = refl
+result-settled b (P.OneTurn (O.Setting t)) v s =
     rw (set-settled b (s .control) (typeFrom (s .scalars) (t .vtype)) (avlFrom (s .scalars) (t .avl)))
-result-settled b (P.OneTurn (O.Mask m)) s = mask-settled (b .vlenb) (s .control .vl) m s (m .op)
-result-settled b (P.OneTurn (O.Reduction r)) s = refl
-result-settled b (P.Elements e) s = refl
+result-settled b (P.OneTurn (O.Mask m)) v s = mask-settled (b .vlenb) (s .control .vl) m s (m .op)
+result-settled b (P.OneTurn (O.Reduction r)) v s = refl
+result-settled b (P.OneTurn (O.Packing p)) v s = refl
+result-settled b (P.OneTurn (O.ScalarMove m)) v s = move-settled (b .vlenb) m v s (m .op)
+result-settled b (P.Elements e) v s = refl
 
 -- ---- VS stays in use
 
@@ -174,14 +188,21 @@ mask-in-use vlenb vl m s Vmsbf h = h
 mask-in-use vlenb vl m s Vmsof h = h
 mask-in-use vlenb vl m s Vmsif h = h
 
-result-in-use : (b : Board) (p : Plan) (s : Core) → InUse s → InUse (resultAt b p s)
+move-in-use : (vlenb : ℕ) (m : ScalarMove) (v : ℕ) (s : Core) (o : ScalarMoveOp) → InUse s → InUse (scalarMoveResult vlenb m v s o)
+unfolding scalarMoveResult
+move-in-use vlenb m v s VmvXS h = h
+move-in-use vlenb m v s VmvSX h = h
+
+result-in-use : (b : Board) (p : Plan) (v : ℕ) (s : Core) → InUse s → InUse (resultAt b p v s)
 unfolding oneTurnResult settingResult
-result-in-use b P.Illegal s h = h
-result-in-use b (P.OneTurn (O.Setting t)) s h =
+result-in-use b P.Illegal v s h = h
+result-in-use b (P.OneTurn (O.Setting t)) v s h =
     set-in-use b (s .control) (typeFrom (s .scalars) (t .vtype)) (avlFrom (s .scalars) (t .avl)) h
-result-in-use b (P.OneTurn (O.Mask m)) s h = mask-in-use (b .vlenb) (s .control .vl) m s (m .op) h
-result-in-use b (P.OneTurn (O.Reduction r)) s h = h
-result-in-use b (P.Elements e) s h = h
+result-in-use b (P.OneTurn (O.Mask m)) v s h = mask-in-use (b .vlenb) (s .control .vl) m s (m .op) h
+result-in-use b (P.OneTurn (O.Reduction r)) v s h = h
+result-in-use b (P.OneTurn (O.Packing p)) v s h = h
+result-in-use b (P.OneTurn (O.ScalarMove m)) v s h = move-in-use (b .vlenb) m v s (m .op) h
+result-in-use b (P.Elements e) v s h = h
 
 -- the state that a turn leaves, with the VS that it sets
 abbrev marked : Ending Fault Answer → Core → Core
@@ -206,7 +227,7 @@ module _ (b : Board) (p : Plan) (t : Turn (semanticsOf b p)) (q : Point (semanti
     on-paused = λ k h l e f. rw (passing-in-use k h);
     on-finished = λ h l.
         let n : ℕ = remaining J q in
-        rw (result-in-use b p (passingAt n) (passing-in-use n (h .is-legal)));
+        rw (result-in-use b p (q .vstart) (passingAt n) (passing-in-use n (h .is-legal)));
   })
 
 -- ---- a turn from a state whose VS is in use, and from the same state with VS Dirty
@@ -217,5 +238,5 @@ status-unseen b p s v = record {
   count = refl;
   effect = λ r k _ _. effect-settled b p r s k;
   put = λ r k w _ _ _ x. all-settled b w x;
-  finish = result-settled b p;
+  finish = result-settled b p v;
 }

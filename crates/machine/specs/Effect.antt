@@ -1,16 +1,18 @@
 -- What one element does, by the state before (document 01, 'The definition': "The state before alone decides what each active one writes
 -- and whether it faults or saturates").
-use Prim.Native.Nat.{ℕ, zero, suc, _+_, _*_, _%_, _^_}
-use mathlib.Core.Bool.{Bool, not, _||_, cond}
+use Prim.Native.Nat.{ℕ, zero, suc, _+_, _-_, _*_, _%_, _^_}
+use mathlib.Core.Bool.{Bool, false, not, _||_, cond}
 use mathlib.Core.List.{List, [], _∷_}
 use lib.ListN.{length}
-use lib.Dec.{eqb}
+use lib.Dec.{ltb, eqb}
 use Rattle.fixed.specs.declared.Element.{Element}
 use Rattle.fixed.specs.Round.{exact}
 use Rattle.alu.specs.Element.{elementOf}
 use Rattle.control.specs.declared.Board.{Board}
 use Rattle.control.specs.declared.Control.{Control}
 use Rattle.control.specs.Control.{withVxsat}
+use Rattle.decode.specs.declared.PermutationOp.{PermutationOp}
+use Rattle.decode.specs.declared.PermutationOp.the-variants.{Vid, Vslideup, Vslidedown, Vslide1up, Vslide1down, Vrgather, Vrgatherei16}
 use Rattle.layout.specs.Layout.{bytesAt, withBytes, elementAt, withElement}
 use Rattle.group.specs.declared.Group.{Group}
 use Rattle.group.specs.Group.{nfields, fieldGroup}
@@ -23,6 +25,7 @@ use Rattle.plan.specs.declared.Read.the-variants as R
 use Rattle.plan.specs.declared.Action.{Action}
 use Rattle.plan.specs.declared.Action.the-variants as A
 use Rattle.plan.specs.declared.Compute.{Compute}
+use Rattle.plan.specs.declared.Permute.{Permute}
 use Rattle.plan.specs.declared.Transfer.{Transfer}
 use Rattle.plan.specs.declared.Elementwise.{Elementwise}
 use Rattle.turn_theory.specs.Turn.{Effect, inactive, fault, write}
@@ -78,6 +81,39 @@ computing vlenb file e k i =
     (valueOf vlenb file (e .v0) i)
     (k .op)) ∷ [])
 
+-- element k of vs2: "Reads past VLMAX give 0" (A6; sections 17.3.2, 17.4), whatever vl is
+abbrev pub vs2At : ℕ → List ℕ → Read → ℕ → ℕ → ℕ
+vs2At vlenb file vs2 vlmax k = cond (ltb k vlmax) (valueOf vlenb file vs2 k) 0
+
+-- "a slide up leaves elements below its offset" x (A6; section 17.3.1)
+abbrev pub staysAt : PermutationOp → ℕ → ℕ → Bool
+staysAt Vid x i = false
+staysAt Vslideup x i = ltb i x
+staysAt Vslidedown x i = false
+staysAt Vslide1up x i = false
+staysAt Vslide1down x i = false
+staysAt Vrgather x i = false
+staysAt Vrgatherei16 x i = false
+
+-- what element i of vl gets (sections 16.9, 17.3.1 to 17.3.4, 17.4), where `vs2 k` is element k of vs2, and x the offset, the index of this
+-- element, or the scalar that is put in. A sum of indices does not wrap around
+abbrev pub permutedOf : PermutationOp → ℕ → ℕ → (ℕ → ℕ) → ℕ → ℕ → ℕ
+permutedOf Vid sew vl vs2 x i = i % 2 ^ sew
+permutedOf Vslideup sew vl vs2 x i = vs2 (i - x)
+permutedOf Vslidedown sew vl vs2 x i = vs2 (i + x)
+permutedOf Vslide1up sew vl vs2 x i = cond (eqb i 0) x (vs2 (i - 1))
+permutedOf Vslide1down sew vl vs2 x i = cond (eqb (i + 1) vl) x (vs2 (i + 1))
+permutedOf Vrgather sew vl vs2 x i = vs2 x
+permutedOf Vrgatherei16 sew vl vs2 x i = vs2 x
+
+-- a permutation of the elements of vs2
+abbrev pub permuting : ℕ → List ℕ → Elementwise → Permute → ℕ → Effect Fault (List Write)
+permuting vlenb file e p i =
+    let x : ℕ = valueOf vlenb file (e .vs1) i in
+    cond (staysAt (p .op) x i) inactive
+    (write (toRegisters (e .dest) i
+    (exact (permutedOf (p .op) (p .sew) (e .end) (vs2At vlenb file (e .vs2) (p .vlmax)) x i)) ∷ []))
+
 -- one write for each of so many fields, from field k on
 unfoldable pub eachField : (ℕ → Write) → ℕ → ℕ → List Write
 eachField f k zero = []
@@ -98,6 +134,7 @@ transferring vlenb rights s store g n i a =
 module _ (b : Board) (rights : List ℕ) (s : Core) (e : Elementwise) (i : ℕ) where
   unfoldable pub actingOf : Action → Effect Fault (List Write)
   actingOf (A.Compute k) = computing (b .vlenb) (s .registers) e k i
+  actingOf (A.Permute p) = permuting (b .vlenb) (s .registers) e p i
   actingOf (A.Transfer t) =
       transferring (b .vlenb) rights s (t .store) (e .dest) (t .bytes) i
       (elementAddress t i (valueOf (b .vlenb) (s .registers) (e .vs2) i))

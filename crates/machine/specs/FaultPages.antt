@@ -19,6 +19,7 @@ use Rattle.machine.specs.Demands.{isTrap}
 -- an access alone can fault, for a reason of an element of its size
 abbrev pub ActionReason : List ℕ → ℕ → Action → Fault → Type 0
 ActionReason rights memory (A.Compute k) f = ⊥
+ActionReason rights memory (A.Permute p) f = ⊥
 ActionReason rights memory (A.Transfer t) f = Reason rights memory (t .store) (t .bytes) f
 
 abbrev pub PlanReason : List ℕ → ℕ → Plan → Fault → Type 0

@@ -45,11 +45,11 @@ module _ (b : Board) where
   effectAt (P.OneTurn t) rights s i = inactive
   effectAt (P.Elements e) rights s i = effectOf b rights s e i
 
-  -- "A one-turn instruction has no stretch, writes its results from the state before and finishes"
-  abbrev pub resultAt : Plan → Core → Core
-  resultAt P.Illegal s = s
-  resultAt (P.OneTurn t) s = oneTurnResult b t s
-  resultAt (P.Elements e) s = s
+  -- "A one-turn instruction has no stretch, writes its results from the state before and finishes"; v is the vstart of the turn
+  abbrev pub resultAt : Plan → ℕ → Core → Core
+  resultAt P.Illegal v s = s
+  resultAt (P.OneTurn t) v s = oneTurnResult b t v s
+  resultAt (P.Elements e) v s = s
 
   -- refusals 32 to 36 of a state with vstart i
   abbrev pub refusalAt : List ℕ → Core → ℕ → Verdict

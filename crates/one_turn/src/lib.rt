@@ -1,31 +1,35 @@
-// Instructions that take one turn: the setting instructions (section 7 of document 000), the reductions (section 15), and those on masks
-// (sections 16.2 to 16.6).
+// Instructions that take one turn: the setting instructions (section 7 of document 000), the reductions (section 15), those on masks
+// (sections 16.2 to 16.6), viota.m and vcompress.vm (16.8, 17.5) and the scalar moves (17.1).
 use control::Avl;
 use control::Board;
 use control::Control;
 use decode::AvlSource;
 use decode::MaskInstruction;
 use decode::MaskOp;
+use decode::ScalarMoveOp;
 use decode::Setting;
 use decode::TypeSource;
 use plan::OneTurn;
+use plan::ScalarMove;
 ghost use mathlib.Core.Path.{_≡_};
 ghost use mathlib.Core.Bool.{cond};
 ghost use mathlib.Core.List.{List};
 ghost use Prim.Native.Nat.{ℕ, _*_, _^_, _-_, _<_};
 ghost use lib.ListN.{length};
 ghost use lib.Dec.{T, ltb};
+ghost use Rattle.width.specs.Width.{signed, wrap};
 ghost use Rattle.control.specs.declared.Control.{Control};
 ghost use Rattle.control.specs.Board.{Valid};
 ghost use Rattle.control.specs.Control.{withVstart, setOf};
 ghost use Rattle.decode.specs.Fields.{AvlFits, TypeFits, SettingFits, MaskFits};
-ghost use Rattle.layout.specs.Layout.{withElement};
+ghost use Rattle.layout.specs.Layout.{elementAt, withElement};
+ghost use Rattle.plan.specs.Plan.{scalarOf};
 ghost use Rattle.legality.specs.Legal.{keepsV0, maskApart};
 ghost use Rattle.machine.specs.Effect.{activeOf};
-ghost use Rattle.machine.specs.OneTurn.{withScalar, avlFrom, typeFrom, setAt, populationOf, firstOf, firstBit, settingFirst, maskResult};
-ghost use Rattle.machine.specs.OneTurn.{oneTurnResult};
+ghost use Rattle.machine.specs.OneTurn.{withScalar, avlFrom, typeFrom, populationOf, firstOf, firstBit, settingFirst, maskResult};
+ghost use Rattle.machine.specs.OneTurn.{scalarMoveResult, oneTurnResult};
 ghost use Rattle.execute.specs.Step.{coreAt};
-ghost use Rattle.one_turn.specs.Holds.{Holds};
+ghost use Rattle.one_turn.specs.Holds.{Holds, Movable};
 ghost use Rattle.one_turn.specs.Performable.{Performable};
 
 // ---- scalar registers
@@ -80,24 +84,15 @@ fn setting(board: Board, scalars: &mut [u64], control: Control, s: Setting) -> C
 
 // ---- masks
 
-// Whether element i is active and its bit in vs2 set.
-fn set_at(registers: &[u8], vlenb: usize, m: MaskInstruction, i: usize) -> bool
-    requires { ⌜ (length (now registers) ≡ 32 * vlenb) × ((i < 8 * vlenb) × MaskFits m) ⌝ }
-    ensures { λ r. ⌜ r ≡ setAt vlenb (now (registers .entry)) m i ⌝ }
-{
-    execute::active(registers, vlenb, m.masked, i)
-        & (layout::read_element(registers, vlenb, m.vs2, 1, i) == 1)
-}
-
 // How many of the first vl elements are active and set.
 fn count(registers: &[u8], vlenb: usize, m: MaskInstruction, vl: usize) -> u64
     requires { ⌜ Holds (length (now registers)) vlenb vl m ⌝ }
-    ensures { λ r. ⌜ r ≡ populationOf vlenb (now (registers .entry)) m vl ⌝ }
+    ensures { λ r. ⌜ r ≡ populationOf vlenb (now (registers .entry)) (m .masked) (m .vs2) vl ⌝ }
 {
     let mut n: u64 = 0;
     let mut i: usize = 0;
     while i < vl {
-        n += width::flagged(set_at(registers, vlenb, m, i));
+        n += width::flagged(execute::set_at(registers, vlenb, m.masked, m.vs2, i));
         i += 1;
     }
     n
@@ -106,11 +101,11 @@ fn count(registers: &[u8], vlenb: usize, m: MaskInstruction, vl: usize) -> u64
 // The first of the vl elements that is active and set; vl where none is.
 fn first(registers: &[u8], vlenb: usize, m: MaskInstruction, vl: usize) -> usize
     requires { ⌜ Holds (length (now registers)) vlenb vl m ⌝ }
-    ensures { λ r. ⌜ r ≡ firstOf vlenb (now (registers .entry)) m 0 vl ⌝ }
+    ensures { λ r. ⌜ r ≡ firstOf vlenb (now (registers .entry)) (m .masked) (m .vs2) 0 vl ⌝ }
 {
     let mut i: usize = 0;
     while i < vl {
-        if set_at(registers, vlenb, m, i) {
+        if execute::set_at(registers, vlenb, m.masked, m.vs2, i) {
             return i;
         }
         i += 1;
@@ -122,8 +117,8 @@ fn first(registers: &[u8], vlenb: usize, m: MaskInstruction, vl: usize) -> usize
 fn first_or_ones(registers: &[u8], vlenb: usize, m: MaskInstruction, vl: usize) -> u64
     requires { ⌜ Holds (length (now registers)) vlenb vl m ⌝ }
     ensures { λ r. ⌜
-        r ≡ cond (ltb (firstOf vlenb (now (registers .entry)) m 0 vl) vl)
-        (firstOf vlenb (now (registers .entry)) m 0 vl) (2 ^ 64 - 1) ⌝ }
+        r ≡ cond (ltb (firstOf vlenb (now (registers .entry)) (m .masked) (m .vs2) 0 vl) vl)
+        (firstOf vlenb (now (registers .entry)) (m .masked) (m .vs2) 0 vl) (2 ^ 64 - 1) ⌝ }
 {
     let f = first(registers, vlenb, m, vl);
     if f < vl {
@@ -164,8 +159,7 @@ fn set_first(registers: &mut [u8], vlenb: usize, m: MaskInstruction, vl: usize)
     requires { ⌜ Holds (length (now registers)) vlenb vl m × T (keepsV0 m) ⌝ }
     ensures { λ _. ⌜
         now (registers .exit)
-        ≡ settingFirst vlenb (now (registers .entry)) m
-        (firstOf vlenb (now (registers .entry)) m 0 vl) 0 vl (now (registers .entry)) ⌝ }
+        ≡ settingFirst vlenb vl (now (registers .entry)) m (firstOf vlenb (now (registers .entry)) (m .masked) (m .vs2) 0 vl) ⌝ }
 {
     let f = first(registers, vlenb, m, vl);
     let mut i: usize = 0;
@@ -198,6 +192,67 @@ fn mask_turn(registers: &mut [u8], scalars: &mut [u64], vlenb: usize, vl: usize,
     }
 }
 
+// ---- scalar moves
+
+// vmv.x.s: element 0, sign-extended to 64 bits, whatever vl is.
+fn to_scalar(registers: &[u8], scalars: &mut [u64], vlenb: usize, m: ScalarMove)
+    requires { ⌜ Movable (length (now registers)) vlenb (length (now scalars)) m ⌝ }
+    ensures { λ _. ⌜
+        now (scalars .exit)
+        ≡ withScalar (now (scalars .entry)) (m .scalar)
+        (wrap 64 (signed (m .vector .eew) (elementAt vlenb (now (registers .entry)) (m .vector .reg) (m .vector .eew) 0))) ⌝ }
+{
+    let vector = m.vector;
+    let z = layout::read_element(registers, vlenb, vector.reg, vector.eew, 0);
+    put_scalar(scalars, m.scalar, integer::extend(vector.eew as u64, 64, z));
+}
+
+// vmv.s.x: element 0, unless vstart has reached vl.
+fn to_vector(
+    registers: &mut [u8],
+    scalars: &[u64],
+    vlenb: usize,
+    vl: u64,
+    vstart: u64,
+    m: ScalarMove,
+)
+    requires { ⌜ Movable (length (now registers)) vlenb (length (now scalars)) m ⌝ }
+    ensures { λ _. ⌜
+        now (registers .exit)
+        ≡ cond (ltb vstart vl)
+        (withElement vlenb (now (registers .entry)) (m .vector .reg) (m .vector .eew) 0 (scalarOf (now (scalars .entry)) (m .scalar)))
+        (now (registers .entry)) ⌝ }
+{
+    let vector = m.vector;
+    if vstart < vl {
+        let z = plan::scalar(scalars, m.scalar);
+        layout::write_element(registers, vlenb, vector.reg, vector.eew, 0, z);
+    }
+}
+
+// The one turn of a scalar move.
+fn scalar_turn(
+    registers: &mut [u8],
+    scalars: &mut [u64],
+    vlenb: usize,
+    control: Control,
+    m: ScalarMove,
+)
+    requires { ⌜ Movable (length (now registers)) vlenb (length (now scalars)) m ⌝ }
+    ensures { λ _. ⌜
+        ((memory : List ℕ) → coreAt (now (registers .exit)) memory (now (scalars .exit)) (withVstart control 0)
+        ≡ scalarMoveResult vlenb m (control .vstart)
+        (coreAt (now (registers .entry)) memory (now (scalars .entry)) (withVstart control 0)) (m .op)) ⌝ }
+{
+    let op = m.op;
+    match op {
+        ScalarMoveOp::VmvXS => to_scalar(registers, scalars, vlenb, m),
+        ScalarMoveOp::VmvSX => {
+            to_vector(registers, scalars, vlenb, control.vl, control.vstart, m)
+        }
+    }
+}
+
 // ---- each of them
 
 // The results of an instruction that takes one turn, and the control record after it: vstart is 0.
@@ -211,7 +266,8 @@ pub fn perform(
     requires { ⌜ Performable board (length (now registers)) (now scalars) control t ⌝ }
     ensures { λ r. ⌜
         ((memory : List ℕ) → coreAt (now (registers .exit)) memory (now (scalars .exit)) r
-        ≡ oneTurnResult board t (coreAt (now (registers .entry)) memory (now (scalars .entry)) (withVstart control 0))) ⌝ }
+        ≡ oneTurnResult board t (control .vstart)
+        (coreAt (now (registers .entry)) memory (now (scalars .entry)) (withVstart control 0))) ⌝ }
 {
     match t {
         OneTurn::Setting(s) => return setting(board, scalars, control, s),
@@ -224,6 +280,12 @@ pub fn perform(
         ),
         OneTurn::Reduction(r) => {
             reduction::reduce(registers, board.vlenb as usize, r, control.vl as usize)
+        }
+        OneTurn::Packing(p) => {
+            packing::pack(registers, board.vlenb as usize, p, control.vl as usize)
+        }
+        OneTurn::ScalarMove(m) => {
+            scalar_turn(registers, scalars, board.vlenb as usize, control, m)
         }
     }
     control.with_vstart(0)

@@ -41,9 +41,6 @@ access-some a f = omega (arith, eew-low a f)
 pub access-most : (a : Access) → AccessFits a → a .eew ≤ 2048
 access-most a f = one-of (λ n. n ≤ 2048) 8 16 32 64 (lit≤ tt) (lit≤ tt) (lit≤ tt) (lit≤ tt) (a .eew) (f .eew)
 
-pub stride-fits : (a : Access) (r : ℕ) → a .mode ≡ M.Strided r → AccessFits a → r < 32
-stride-fits a r e f = subst ModeFits e (f .mode)
-
 pub whole-le : (n : ℕ) → ModeFits (M.Whole n) → n ≤ 8
 whole-le = one-of (λ n. n ≤ 8) 1 2 4 8 (lit≤ tt) (lit≤ tt) (lit≤ tt) (lit≤ tt)
 

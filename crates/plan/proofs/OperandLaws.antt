@@ -1,5 +1,5 @@
 -- Operands, from what the code has computed: one law for each arm, over plain variables; and the bounds that they need.
-use Prim.Native.Nat.{ℕ, _%_, _^_, _≤_, _<_}
+use Prim.Native.Nat.{ℕ, _%_, _^_, _≤_}
 use mathlib.Core.Path.{_≡_, sym, ap, subst, _∙_}
 use mathlib.Core.Bool.{Bool, cond}
 use mathlib.Core.List.{List}
@@ -8,16 +8,26 @@ use Rattle.width.specs.Width.{Width, signed, wrap}
 use Rattle.operation.specs.declared.Size.{Size}
 use Rattle.operation.specs.declared.Size.the-variants.{Absent, Bit, Eighth, Quarter, Half, Single, Double}
 use Rattle.operation.specs.Shape.{eewOf}
-use Rattle.laws.proofs.Chain.{case}
+use Rattle.laws.proofs.Chain.{case, arm}
 use Rattle.control.specs.Vtype.{sewOf, lmul8Of}
 use Rattle.control.proofs.Laws.{sew-ge, sew-le, lmul8-le}
 use Rattle.decode.specs.declared.Source.{Source}
 use Rattle.decode.specs.declared.Source.the-variants.{Vector, Scalar, Immediate}
-use Rattle.decode.specs.Fields.{SourceFits}
+use Rattle.decode.specs.declared.PermutationOp.{PermutationOp}
 use Rattle.group.specs.declared.Group.{Group}
 use Rattle.plan.specs.declared.Read.{Read}
 use Rattle.plan.specs.declared.Read.the-variants as R
-use Rattle.plan.specs.Plan.{scalarOf, groupAt, readAt, secondOf}
+use Rattle.plan.specs.Plan.{scalarOf, groupAt, readAt, secondOf, indexOf, movedBy}
+
+-- ---- in the arm of a variant
+
+-- a function of it, with an argument before it and one after it
+pub between : {A B C D : Type 0} (f : B → A → C → D) (b : B) (a v : A) (c : C) (r : D) → a ≡ v → r ≡ f b v c → r ≡ f b a c
+between f b = arm (f b)
+
+-- what the variant k holds fits, since the whole does
+pub variant-fits : {A B : Type 0} (F : A → Type 0) (k : B → A) (a : A) (b : B) → a ≡ k b → F a → F (k b)
+variant-fits F k a b e f = subst F e f
 
 -- ---- bounds of SEW, LMUL and EEW
 
@@ -50,23 +60,14 @@ eew-most v z s e p q = subst (λ (n : ℕ). n ≤ 2048) (sym q) (eew-le z s (sew
 
 -- ---- operands of a vector
 
-pub in-size : (v : ℕ) (z t : Size) (reg : ℕ) (r : Read) → z ≡ t → r ≡ readAt v t reg → r ≡ readAt v z reg
-in-size v z t reg r e p = case (λ (y : Size). readAt v y reg) z t r e p
-
 -- in the arm of a size t that is a group's
 pub in-group : (v reg s eew : ℕ) (z t : Size) (g : Group) → z ≡ t → s ≡ sewOf v → eew ≡ eewOf z s → g ≡ groupAt v eew reg
     → R.Element (groupAt v (eewOf t (sewOf v)) reg) ≡ readAt v t reg → R.Element g ≡ readAt v z reg
 in-group v reg s eew z t g e p q h k =
-    in-size v z t reg (R.Element g) e
+    between readAt v z t reg (R.Element g) e
     (ap R.Element (h ∙ ap (λ (n : ℕ). groupAt v n reg) (q ∙ ap (eewOf z) p ∙ ap (λ (y : Size). eewOf y (sewOf v)) e)) ∙ k)
 
 -- ---- the second source
-
-pub scalar-fits : (s : Source) (r : ℕ) → s ≡ Scalar r → SourceFits s → r < 32
-scalar-fits s r e h = subst SourceFits e h
-
-pub immediate-fits : (s : Source) (n : ℕ) → s ≡ Immediate n → SourceFits s → n < 32
-immediate-fits s n e h = subst SourceFits e h
 
 pub vector-source : (x : List ℕ) (v : ℕ) (z : Size) (unsigned : Bool) (s : Source) (n : ℕ) (r : Read) → s ≡ Vector n → r ≡ readAt v z n
     → r ≡ secondOf x v z unsigned s
@@ -84,3 +85,16 @@ pub immediate-source : (x : List ℕ) (v : ℕ) (z : Size) (unsigned : Bool) (s 
     → R.Constant r ≡ secondOf x v z unsigned s
 unfolding secondOf
 immediate-source x v z unsigned s n sew r e p h = case (secondOf x v z unsigned) s (Immediate n) (R.Constant r) e (rw (h, p))
+
+-- ---- permutations
+
+pub indexed : (x : List ℕ) (v eew : ℕ) (s t : Source) (r : Read) → s ≡ t → r ≡ indexOf x v eew t → r ≡ indexOf x v eew s
+indexed x v eew = case (indexOf x v eew)
+
+pub moved-arm : (x : List ℕ) (v : ℕ) (op o : PermutationOp) (s : Source) (r : Read) → op ≡ o → r ≡ movedBy x v o s → r ≡ movedBy x v op s
+moved-arm x v = arm (movedBy x v)
+
+-- in the arm of an operation o that takes an index of SEW bits
+pub moved-index : (x : List ℕ) (v sew : ℕ) (op o : PermutationOp) (s : Source) (r : Read) → op ≡ o → sew ≡ sewOf v → r ≡ indexOf x v sew s
+    → indexOf x v (sewOf v) s ≡ movedBy x v o s → r ≡ movedBy x v op s
+moved-index x v sew op o s r e p q k = moved-arm x v op o s r e (q ∙ ap (λ (n : ℕ). indexOf x v n s) p ∙ k)

@@ -1,7 +1,7 @@
 -- What the plan of a decoded word keeps to: its registers, and its scalars and immediates.
 use Prim.Native.Nat.{ℕ, _≤_, _<_, _^_}
 use mathlib.Core.Path.{_≡_, subst}
-use mathlib.Core.Bool.{Bool, cond}
+use mathlib.Core.Bool.{Bool, true, cond}
 use mathlib.Core.List.{List}
 use native.Mathlib.Nat.{lt-of-lt-of-le}
 use native.Mathlib.Omega.{arith}
@@ -25,22 +25,24 @@ use Rattle.decode.specs.declared.Source.the-variants.{Vector, Scalar, Immediate
 use Rattle.decode.specs.declared.Mode.{Mode}
 use Rattle.decode.specs.declared.Mode.the-variants as M
 use Rattle.decode.specs.declared.Arithmetic.{Arithmetic}
+use Rattle.decode.specs.declared.PermutationOp.{PermutationOp}
+use Rattle.decode.specs.declared.PermutationOp.the-variants.{Vid, Vslideup, Vslidedown, Vslide1up, Vslide1down, Vrgather, Vrgatherei16}
+use Rattle.decode.specs.declared.PermutationInstruction.{PermutationInstruction}
+use Rattle.decode.specs.declared.PackOp.{PackOp}
+use Rattle.decode.specs.declared.PackOp.the-variants.{Viota, Vcompress}
+use Rattle.decode.specs.declared.PackInstruction.{PackInstruction}
 use Rattle.decode.specs.declared.Access.{Access}
 use Rattle.decode.specs.declared.Instruction.{Instruction}
 use Rattle.decode.specs.declared.Instruction.the-variants as I
-use Rattle.decode.specs.Fields.{SourceFits, ArithmeticFits, ModeFits, Fits}
+use Rattle.decode.specs.Fields.{SourceFits, ArithmeticFits, PermutationFits, PackFits, ModeFits, Fits}
 use Rattle.group.specs.declared.Group.{Group}
 use Rattle.plan.specs.declared.Read.{Read}
 use Rattle.plan.specs.declared.Read.the-variants as R
 use Rattle.plan.specs.declared.Transfer.{Transfer}
-use Rattle.plan.specs.declared.Elementwise.{Elementwise}
-use Rattle.plan.specs.declared.Reduction.{Reduction}
-use Rattle.plan.specs.declared.OneTurn.{OneTurn}
-use Rattle.plan.specs.declared.OneTurn.the-variants as O
 use Rattle.plan.specs.declared.Plan.{Plan}
-use Rattle.plan.specs.declared.Plan.the-variants as P
-use Rattle.plan.specs.Plan.{scalarOf, readAt, groupOf, secondOf, v0Read, shapedOf, computingOf, movingOf, byMode, reducingOf, planOf}
-use Rattle.plan.specs.Range.{ReadInRange, InRange, ReductionInRange, OneTurnFits, PlanFits}
+use Rattle.plan.specs.Plan.{scalarOf, readAt, groupOf, secondOf, v0Read, shapedOf, computingOf, indexOf, movedElements, movedBy}
+use Rattle.plan.specs.Plan.{permutingOf, movingOf, byMode, reducingOf, countedMask, packedElements, packingOf, scalarMovingOf, planOf}
+use Rattle.plan.specs.Range.{ReadInRange, InRange, PlanFits}
 
 -- ---- the registers of a decoded word are in range
 
@@ -87,6 +89,49 @@ computing-range x c a f =
       v0 = v0-range (shapeOf (a .op) .v0) (a .masked);
     }
 
+index-range : (x : List ℕ) (v eew : ℕ) (s : Source) → SourceFits s → ReadInRange (indexOf x v eew s)
+unfolding indexOf
+index-range x v eew (Vector r) h = h
+index-range x v eew (Scalar r) h = tt
+index-range x v eew (Immediate n) h = tt
+
+moved-range : (v : ℕ) (op : PermutationOp) (reg : ℕ) → reg < 32 → ReadInRange (movedElements v op reg)
+moved-range v Vid reg h = tt
+moved-range v Vslideup reg h = read-range v Single reg h
+moved-range v Vslidedown reg h = read-range v Single reg h
+moved-range v Vslide1up reg h = read-range v Single reg h
+moved-range v Vslide1down reg h = read-range v Single reg h
+moved-range v Vrgather reg h = read-range v Single reg h
+moved-range v Vrgatherei16 reg h = read-range v Single reg h
+
+moved-by-range : (x : List ℕ) (v : ℕ) (op : PermutationOp) (s : Source) → SourceFits s → ReadInRange (movedBy x v op s)
+moved-by-range x v Vid s h = tt
+moved-by-range x v Vslideup s h = index-range x v (sewOf v) s h
+moved-by-range x v Vslidedown s h = index-range x v (sewOf v) s h
+moved-by-range x v Vslide1up s h = second-range x v Single true s h
+moved-by-range x v Vslide1down s h = second-range x v Single true s h
+moved-by-range x v Vrgather s h = index-range x v (sewOf v) s h
+moved-by-range x v Vrgatherei16 s h = index-range x v 16 s h
+
+permuting-range : (b : Board) (x : List ℕ) (c : Control) (a : PermutationInstruction) → PermutationFits a → InRange (permutingOf b x c a)
+unfolding permutingOf
+permuting-range b x c a f =
+    record {
+      dest = f .vd;
+      vs2 = moved-range (c .vtype) (a .op) (a .vs2) (f .vs2);
+      vs1 = moved-by-range x (c .vtype) (a .op) (a .source) (f .source);
+      vd = tt;
+      v0 = tt;
+    }
+
+packed-range : (v : ℕ) (op : PackOp) (a : PackInstruction) → PackFits a → ReadInRange (packedElements v op a)
+packed-range v Viota a f = tt
+packed-range v Vcompress a f = read-range v Single (a .vs2) (f .vs2)
+
+counted-range : (op : PackOp) (a : PackInstruction) → PackFits a → countedMask op a < 32
+counted-range Viota a f = f .vs2
+counted-range Vcompress a f = f .vs1
+
 moving-range : (a : Access) (typed : Bool) (g : Group) (offset : Read) (t : Transfer) (end : ℕ) → g .reg < 32 → ReadInRange offset
     → InRange (movingOf a typed g offset t end)
 unfolding movingOf
@@ -101,27 +146,20 @@ mode-range b x c a M.MaskBytes h k = moving-range a _ _ _ _ _ h tt
 mode-range b x c a (M.Whole n) h k = moving-range a _ _ _ _ _ h tt
 
 pub plan-range : (b : Board) (x : List ℕ) (c : Control) (i : Instruction) → Fits i → PlanFits (planOf b x c i)
-unfolding planOf reducingOf
+unfolding planOf reducingOf packingOf scalarMovingOf
 plan-range b x c I.Illegal f = tt
 plan-range b x c (I.Setting t) f = f
 plan-range b x c (I.Mask m) f = f
 plan-range b x c (I.Reduction a) f = record { vd = f .vd; vs2 = f .vs2; vs1 = f .vs1 }
+plan-range b x c (I.Pack a) f = record { vd = f .vd; elements = packed-range (c .vtype) (a .op) a f; mask = counted-range (a .op) a f }
+plan-range b x c (I.ScalarMove a) f = record { vector = f .vector; scalar = f .scalar }
 plan-range b x c (I.Arithmetic a) f = computing-range x c a f
+plan-range b x c (I.Permutation a) f = permuting-range b x c a f
 plan-range b x c (I.Memory a) f = mode-range b x c a (a .mode) (f .vd) (f .mode)
 
 -- of what the code has worked out
 pub planned-range : (b : Board) (x : List ℕ) (c : Control) (i : Instruction) (p : Plan) → p ≡ planOf b x c i → Fits i → PlanFits p
 planned-range b x c i p e f = rw e (plan-range b x c i f)
-
--- in the arm of the variant
-pub one-turn-range : (p : Plan) (t : OneTurn) → p ≡ P.OneTurn t → PlanFits p → OneTurnFits t
-one-turn-range p t e f = subst PlanFits e f
-
-pub reduction-range : (t : OneTurn) (r : Reduction) → t ≡ O.Reduction r → OneTurnFits t → ReductionInRange r
-reduction-range t r e f = subst OneTurnFits e f
-
-pub elements-range : (p : Plan) (e : Elementwise) → p ≡ P.Elements e → PlanFits p → InRange e
-elements-range p e q f = subst PlanFits q f
 
 -- ---- an operand that is the same at every index: below 2 ^ SEW
 

@@ -14,7 +14,7 @@ use Rattle.operation.specs.declared.Shape.{Shape}
 use Rattle.operation.specs.Shape.{eewOf, shapeOf}
 use Rattle.control.specs.declared.Board.{Board}
 use Rattle.control.specs.declared.Control.{Control}
-use Rattle.control.specs.Vtype.{sewOf, lmul8Of}
+use Rattle.control.specs.Vtype.{sewOf, lmul8Of, vlmaxOf}
 use Rattle.decode.specs.declared.Arithmetic.{Arithmetic}
 use Rattle.decode.specs.declared.Access.{Access}
 use Rattle.decode.specs.declared.Source.{Source}
@@ -25,6 +25,13 @@ use Rattle.decode.specs.declared.ReductionOp.{ReductionOp}
 use Rattle.decode.specs.declared.ReductionOp.the-variants.{Vredsum, Vredand, Vredor, Vredxor, Vredminu, Vredmin, Vredmaxu, Vredmax}
 use Rattle.decode.specs.declared.ReductionOp.the-variants.{Vwredsumu, Vwredsum}
 use Rattle.decode.specs.declared.ReductionInstruction.{ReductionInstruction}
+use Rattle.decode.specs.declared.PermutationOp.{PermutationOp}
+use Rattle.decode.specs.declared.PermutationOp.the-variants.{Vid, Vslideup, Vslidedown, Vslide1up, Vslide1down, Vrgather, Vrgatherei16}
+use Rattle.decode.specs.declared.PermutationInstruction.{PermutationInstruction}
+use Rattle.decode.specs.declared.PackOp.{PackOp}
+use Rattle.decode.specs.declared.PackOp.the-variants.{Viota, Vcompress}
+use Rattle.decode.specs.declared.PackInstruction.{PackInstruction}
+use Rattle.decode.specs.declared.ScalarMoveInstruction.{ScalarMoveInstruction}
 use Rattle.decode.specs.declared.Instruction.{Instruction}
 use Rattle.decode.specs.declared.Instruction.the-variants as I
 use Rattle.group.specs.declared.Group.{Group}
@@ -35,6 +42,8 @@ use Rattle.plan.specs.declared.Transfer.{Transfer}
 use Rattle.plan.specs.declared.Action.the-variants as A
 use Rattle.plan.specs.declared.Elementwise.{Elementwise}
 use Rattle.plan.specs.declared.Reduction.{Reduction}
+use Rattle.plan.specs.declared.Packing.{Packing}
+use Rattle.plan.specs.declared.ScalarMove.{ScalarMove}
 use Rattle.plan.specs.declared.OneTurn.the-variants as O
 use Rattle.plan.specs.declared.Plan.{Plan}
 use Rattle.plan.specs.declared.Plan.the-variants as P
@@ -113,6 +122,49 @@ shapedOf x c a s =
 abbrev pub computingOf : List ℕ → Control → Arithmetic → Elementwise
 computingOf x c a = shapedOf x c a (shapeOf (a .op))
 
+-- ---- permutations that go element by element (sections 16.9, 17.3, 17.4): the end is vl
+
+-- an offset or an index: "all 64 bits, or the 5-bit number unsigned, never cut to SEW" (A6); elements of EEW bits are unsigned
+unfoldable pub indexOf : List ℕ → ℕ → ℕ → Source → Read
+indexOf x v eew (Vector r) = R.Element (groupAt v eew r)
+indexOf x v eew (Scalar r) = R.Constant (scalarOf x r)
+indexOf x v eew (Immediate n) = R.Constant n
+
+-- vs2, whose elements are moved; vid.v has none
+abbrev pub movedElements : ℕ → PermutationOp → ℕ → Read
+movedElements v Vid reg = R.Constant 0
+movedElements v Vslideup reg = readAt v Single reg
+movedElements v Vslidedown reg = readAt v Single reg
+movedElements v Vslide1up reg = readAt v Single reg
+movedElements v Vslide1down reg = readAt v Single reg
+movedElements v Vrgather reg = readAt v Single reg
+movedElements v Vrgatherei16 reg = readAt v Single reg
+
+-- the second operand: an offset, an index of SEW bits or of 16 (section 17.4), or the scalar that is put in, of which "the
+-- least-significant bits are copied" (sections 17.3.3, 17.3.4)
+abbrev pub movedBy : List ℕ → ℕ → PermutationOp → Source → Read
+movedBy x v Vid source = R.Constant 0
+movedBy x v Vslideup source = indexOf x v (sewOf v) source
+movedBy x v Vslidedown source = indexOf x v (sewOf v) source
+movedBy x v Vslide1up source = secondOf x v Single true source
+movedBy x v Vslide1down source = secondOf x v Single true source
+movedBy x v Vrgather source = indexOf x v (sewOf v) source
+movedBy x v Vrgatherei16 source = indexOf x v 16 source
+
+unfoldable pub permutingOf : Board → List ℕ → Control → PermutationInstruction → Elementwise
+permutingOf b x c a =
+    record {
+      dest = groupAt (c .vtype) (sewOf (c .vtype)) (a .vd);
+      vs2 = movedElements (c .vtype) (a .op) (a .vs2);
+      vs1 = movedBy x (c .vtype) (a .op) (a .source);
+      vd = R.Constant 0;
+      v0 = R.Constant 0;
+      masked = a .masked;
+      typed = true;
+      end = c .vl;
+      action = A.Permute (record { op = a .op; sew = sewOf (c .vtype); vlmax = vlmaxOf b (c .vtype) });
+    }
+
 -- ---- loads and stores (section 8)
 
 -- element i of a group, of each of its fields, is moved to or from the address base + i * stride + its offset, and on (`elementAddress`,
@@ -189,6 +241,32 @@ reducingOf v a =
       masked = a .masked;
     }
 
+-- ---- viota.m, vcompress.vm (sections 16.8, 17.5) and the scalar moves (section 17.1)
+
+-- the mask whose set bits are counted
+abbrev pub countedMask : PackOp → PackInstruction → ℕ
+countedMask Viota a = a .vs2
+countedMask Vcompress a = a .vs1
+
+-- what is packed
+abbrev pub packedElements : ℕ → PackOp → PackInstruction → Read
+packedElements v Viota a = R.Constant 0
+packedElements v Vcompress a = readAt v Single (a .vs2)
+
+unfoldable pub packingOf : ℕ → PackInstruction → Packing
+packingOf v a =
+    record {
+      op = a .op;
+      vd = groupAt v (sewOf v) (a .vd);
+      elements = packedElements v (a .op) a;
+      mask = countedMask (a .op) a;
+      masked = a .masked;
+    }
+
+-- "The instructions ignore LMUL and vector register groups" (section 17.1)
+unfoldable pub scalarMovingOf : ℕ → ScalarMoveInstruction → ScalarMove
+scalarMovingOf v a = record { op = a .op; vector = registerAt (sewOf v) (a .vector); scalar = a .scalar }
+
 -- ---- every decoded word
 
 -- Where vill is set, SEW and LMUL are those of zero bits, 8 and 1; a plan that goes by vtype is then not legal (`startable`, Legal)
@@ -198,5 +276,8 @@ module _ (b : Board) (x : List ℕ) (c : Control) where
   planOf (I.Setting t) = P.OneTurn (O.Setting t)
   planOf (I.Mask m) = P.OneTurn (O.Mask m)
   planOf (I.Reduction a) = P.OneTurn (O.Reduction (reducingOf (c .vtype) a))
+  planOf (I.Pack a) = P.OneTurn (O.Packing (packingOf (c .vtype) a))
+  planOf (I.ScalarMove a) = P.OneTurn (O.ScalarMove (scalarMovingOf (c .vtype) a))
   planOf (I.Arithmetic a) = P.Elements (computingOf x c a)
+  planOf (I.Permutation a) = P.Elements (permutingOf b x c a)
   planOf (I.Memory a) = P.Elements (transferringOf b x c a)

@@ -9,6 +9,8 @@ use Rattle.plan.specs.declared.Read.{Read}
 use Rattle.plan.specs.declared.Read.the-variants as R
 use Rattle.plan.specs.declared.Elementwise.{Elementwise}
 use Rattle.plan.specs.declared.Reduction.{Reduction}
+use Rattle.plan.specs.declared.Packing.{Packing}
+use Rattle.plan.specs.declared.ScalarMove.{ScalarMove}
 use Rattle.plan.specs.declared.Sources.{Sources}
 use Rattle.plan.specs.declared.OneTurn.{OneTurn}
 use Rattle.plan.specs.declared.OneTurn.the-variants as O
@@ -33,10 +35,21 @@ pub record ReductionInRange (r : Reduction) : Type 0 where
   pub vs2 : r .vs2 .reg < 32
   pub vs1 : r .vs1 .reg < 32
 
+pub record PackingInRange (p : Packing) : Type 0 where
+  pub vd : p .vd .reg < 32
+  pub elements : ReadInRange (p .elements)
+  pub mask : p .mask < 32
+
+pub record ScalarMoveInRange (m : ScalarMove) : Type 0 where
+  pub vector : m .vector .reg < 32
+  pub scalar : m .scalar < 32
+
 abbrev pub OneTurnFits : OneTurn → Type 0
 OneTurnFits (O.Setting t) = SettingFits t
 OneTurnFits (O.Mask m) = MaskFits m
 OneTurnFits (O.Reduction r) = ReductionInRange r
+OneTurnFits (O.Packing p) = PackingInRange p
+OneTurnFits (O.ScalarMove m) = ScalarMoveInRange m
 
 abbrev pub PlanFits : Plan → Type 0
 PlanFits P.Illegal = Unit {0}

@@ -6,7 +6,10 @@ use Rattle.group.specs.Group.{maskGroup}
 use Rattle.plan.specs.declared.Read.{Read}
 use Rattle.plan.specs.declared.Read.the-variants as R
 use Rattle.plan.specs.declared.Elementwise.{Elementwise}
+use Rattle.decode.specs.declared.ScalarMoveOp.{ScalarMoveOp}
+use Rattle.decode.specs.declared.ScalarMoveOp.the-variants.{VmvXS, VmvSX}
 use Rattle.plan.specs.declared.Reduction.{Reduction}
+use Rattle.plan.specs.declared.Packing.{Packing}
 use Rattle.plan.specs.declared.OneTurn.{OneTurn}
 use Rattle.plan.specs.declared.OneTurn.the-variants as O
 use Rattle.plan.specs.declared.Plan.{Plan}
@@ -32,11 +35,23 @@ elementSources e =
 unfoldable pub reductionSources : Reduction → List Group
 reductionSources r = r .vs2 ∷ r .vs1 ∷ registersRead (v0Source (r .masked) (R.Constant 0))
 
+-- viota.m and vcompress.vm read a mask, the elements that are packed and, where they are masked, v0
+unfoldable pub packingSources : Packing → List Group
+packingSources p =
+    registersRead (p .elements) ++ registersRead (R.Bit (p .mask)) ++ registersRead (v0Source (p .masked) (R.Constant 0))
+
+-- vmv.x.s reads its vector register; vmv.s.x writes it
+abbrev pub movedRegister : ScalarMoveOp → Group → Read
+movedRegister VmvXS g = R.Element g
+movedRegister VmvSX g = R.Constant 0
+
 -- setting instructions read no vector register; those on masks read vs2 and, where they are masked, v0
 abbrev pub oneTurnSources : OneTurn → List Group
 oneTurnSources (O.Setting t) = []
 oneTurnSources (O.Mask m) = registersRead (R.Bit (m .vs2)) ++ registersRead (v0Source (m .masked) (R.Constant 0))
 oneTurnSources (O.Reduction r) = reductionSources r
+oneTurnSources (O.Packing p) = packingSources p
+oneTurnSources (O.ScalarMove m) = registersRead (movedRegister (m .op) (m .vector))
 
 unfoldable pub sourcesOf : Plan → List Group
 sourcesOf P.Illegal = []

@@ -6,12 +6,14 @@ ghost use mathlib.Core.Bool.{cond};
 ghost use Rattle.width.specs.Width.{signed, wrap};
 ghost use Rattle.control.specs.Board.{Valid};
 ghost use Rattle.control.specs.Vtype.{sewOf};
-ghost use Rattle.decode.specs.Fields.{SourceFits, ArithmeticFits, AccessFits, Fits};
+ghost use Rattle.decode.specs.Fields.{SourceFits, ArithmeticFits, PermutationFits, AccessFits, Fits};
 ghost use Rattle.plan.specs.declared.Read.the-variants.{Constant};
 ghost use Rattle.plan.specs.Plan.{scalarOf, groupsAt, readAt, groupOf, secondOf, v0Read, v0Masks};
-ghost use Rattle.plan.specs.Plan.{computingOf, movingOf, transferringOf, registerAt, scalarSize, reducingOf, planOf};
-ghost use Rattle.plan.specs.Sources.{v0Source, elementSources, reductionSources, oneTurnSources, sourcesOf};
-ghost use Rattle.plan.specs.Range.{InRange, ReductionInRange, OneTurnFits, PlanFits, Lists};
+ghost use Rattle.plan.specs.Plan.{computingOf, indexOf, movedElements, movedBy, permutingOf, movingOf, transferringOf};
+ghost use Rattle.plan.specs.Plan.{registerAt, scalarSize, reducingOf, packedElements, countedMask, packingOf, scalarMovingOf, planOf};
+ghost use Rattle.plan.specs.Sources.{v0Source, elementSources, reductionSources, packingSources, movedRegister, oneTurnSources};
+ghost use Rattle.plan.specs.Sources.{sourcesOf};
+ghost use Rattle.plan.specs.Range.{InRange, ReductionInRange, PackingInRange, OneTurnFits, PlanFits, Lists};
 use control::Board;
 use control::Control;
 use decode::Access;
@@ -19,8 +21,14 @@ use decode::Arithmetic;
 use decode::Instruction;
 use decode::MaskInstruction;
 use decode::Mode;
+use decode::PackInstruction;
+use decode::PackOp;
+use decode::PermutationInstruction;
+use decode::PermutationOp;
 use decode::ReductionInstruction;
 use decode::ReductionOp;
+use decode::ScalarMoveInstruction;
+use decode::ScalarMoveOp;
 use decode::Setting;
 use decode::Source;
 use fixed::Vxrm;
@@ -51,9 +59,17 @@ pub struct Transfer {
     pub bytes: u64,
 }
 
+// A permutation at a SEW and a VLMAX: elements of vs2 are read below VLMAX, whatever vl is.
+pub struct Permute {
+    pub op: PermutationOp,
+    pub sew: u64,
+    pub vlmax: u64,
+}
+
 // What is done at each element.
 pub enum Action {
     Compute(Compute),
+    Permute(Permute),
     Transfer(Transfer),
 }
 
@@ -85,11 +101,32 @@ pub struct Reduction {
     pub masked: bool,
 }
 
+// viota.m, which gives the set bits of a mask below each element, or vcompress.vm, which puts elements there.
+pub struct Packing {
+    pub op: PackOp,
+    pub vd: Group,
+    // what is packed: vs2 of vcompress.vm, nothing for viota.m
+    pub elements: Read,
+    // the mask register: vs2 of viota.m, vs1 of vcompress.vm
+    pub mask: usize,
+    // v0 says which elements are active
+    pub masked: bool,
+}
+
+// A move between element 0 of a vector register and a scalar register.
+pub struct ScalarMove {
+    pub op: ScalarMoveOp,
+    pub vector: Group,
+    pub scalar: usize,
+}
+
 // An instruction that takes one turn.
 pub enum OneTurn {
     Setting(Setting),
     Mask(MaskInstruction),
     Reduction(Reduction),
+    Packing(Packing),
+    ScalarMove(ScalarMove),
 }
 
 // What a decoded word means: nothing, something that takes one turn, or elements.
@@ -262,6 +299,78 @@ fn computing(x: &[u64], control: Control, a: Arithmetic) -> Elementwise
     }
 }
 
+// ---- permutations
+
+// An offset or an index, not cut to SEW.
+fn index_of(x: &[u64], vtype: u64, eew: u64, source: Source) -> Read
+    requires { ⌜ (length (now x) ≡ 32) × ((eew ≤ 2048) × SourceFits source) ⌝ }
+    ensures { λ r. ⌜ r ≡ indexOf (now (x .entry)) vtype eew source ⌝ }
+{
+    match source {
+        Source::Vector(r) => Read::Element(groups_at(vtype, eew, r, 0)),
+        Source::Scalar(r) => Read::Constant(scalar(x, r)),
+        Source::Immediate(n) => Read::Constant(n),
+    }
+}
+
+// vs2 of a permutation.
+fn moved_elements(vtype: u64, op: PermutationOp, reg: usize) -> Read
+    ensures { λ r. ⌜ r ≡ movedElements vtype op reg ⌝ }
+{
+    match op {
+        PermutationOp::Vid => Read::Constant(0),
+        PermutationOp::Vslideup => read_at(vtype, Size::Single, reg),
+        PermutationOp::Vslidedown => read_at(vtype, Size::Single, reg),
+        PermutationOp::Vslide1up => read_at(vtype, Size::Single, reg),
+        PermutationOp::Vslide1down => read_at(vtype, Size::Single, reg),
+        PermutationOp::Vrgather => read_at(vtype, Size::Single, reg),
+        PermutationOp::Vrgatherei16 => read_at(vtype, Size::Single, reg),
+    }
+}
+
+// The second operand of a permutation.
+fn moved_by(x: &[u64], vtype: u64, op: PermutationOp, source: Source) -> Read
+    requires { ⌜ (length (now x) ≡ 32) × ((sewOf vtype ≤ 64) × SourceFits source) ⌝ }
+    ensures { λ r. ⌜ r ≡ movedBy (now (x .entry)) vtype op source ⌝ }
+{
+    let sew = Control::sew(vtype);
+    match op {
+        PermutationOp::Vid => Read::Constant(0),
+        PermutationOp::Vslideup => index_of(x, vtype, sew, source),
+        PermutationOp::Vslidedown => index_of(x, vtype, sew, source),
+        PermutationOp::Vslide1up => second(x, vtype, Size::Single, true, source),
+        PermutationOp::Vslide1down => second(x, vtype, Size::Single, true, source),
+        PermutationOp::Vrgather => index_of(x, vtype, sew, source),
+        PermutationOp::Vrgatherei16 => index_of(x, vtype, 16, source),
+    }
+}
+
+// A permutation that goes element by element.
+fn permuting(board: Board, x: &[u64], control: Control, a: PermutationInstruction) -> Elementwise
+    requires { ⌜ Valid board × ((length (now x) ≡ 32) × ((sewOf (control .vtype) ≤ 64) × PermutationFits a)) ⌝ }
+    ensures { λ r. ⌜ r ≡ permutingOf board (now (x .entry)) control a ⌝ }
+{
+    let op = a.op;
+    let source = a.source;
+    let vtype = control.vtype;
+    let sew = Control::sew(vtype);
+    let vlmax = Control::vlmax(board, vtype);
+    let dest = groups_at(vtype, sew, a.vd, 0);
+    let vs2 = moved_elements(vtype, op, a.vs2);
+    let vs1 = moved_by(x, vtype, op, source);
+    Elementwise {
+        dest,
+        vs2,
+        vs1,
+        vd: Read::Constant(0),
+        v0: Read::Constant(0),
+        masked: a.masked,
+        typed: true,
+        end: control.vl,
+        action: Action::Permute(Permute { op, sew, vlmax }),
+    }
+}
+
 // ---- memory
 
 // A load or a store of a group.
@@ -400,6 +509,57 @@ fn reducing(vtype: u64, a: ReductionInstruction) -> Reduction
     }
 }
 
+// ---- viota.m, vcompress.vm and the scalar moves
+
+// The mask whose set bits are counted.
+fn counted_mask(op: PackOp, a: PackInstruction) -> usize
+    ensures { λ r. ⌜ r ≡ countedMask op a ⌝ }
+{
+    match op {
+        PackOp::Viota => a.vs2,
+        PackOp::Vcompress => a.vs1,
+    }
+}
+
+// What is packed.
+fn packed_elements(vtype: u64, op: PackOp, a: PackInstruction) -> Read
+    ensures { λ r. ⌜ r ≡ packedElements vtype op a ⌝ }
+{
+    match op {
+        PackOp::Viota => Read::Constant(0),
+        PackOp::Vcompress => read_at(vtype, Size::Single, a.vs2),
+    }
+}
+
+// viota.m or vcompress.vm.
+fn packing_at(vtype: u64, a: PackInstruction) -> Packing
+    ensures { λ r. ⌜ r ≡ packingOf vtype a ⌝ }
+{
+    let op = a.op;
+    let vd = groups_at(vtype, Control::sew(vtype), a.vd, 0);
+    let elements = packed_elements(vtype, op, a);
+    Packing {
+        op,
+        vd,
+        elements,
+        mask: counted_mask(op, a),
+        masked: a.masked,
+    }
+}
+
+// vmv.x.s or vmv.s.x.
+fn scalar_moving(vtype: u64, a: ScalarMoveInstruction) -> ScalarMove
+    ensures { λ r. ⌜ r ≡ scalarMovingOf vtype a ⌝ }
+{
+    let op = a.op;
+    let vector = register_at(Control::sew(vtype) as usize, a.vector);
+    ScalarMove {
+        op,
+        vector,
+        scalar: a.scalar,
+    }
+}
+
 // ---- every decoded word
 
 // The plan of a decoded word.
@@ -414,7 +574,12 @@ pub fn plan_of(board: Board, x: &[u64], control: Control, instruction: Instructi
         Instruction::Setting(t) => Plan::OneTurn(OneTurn::Setting(t)),
         Instruction::Mask(m) => Plan::OneTurn(OneTurn::Mask(m)),
         Instruction::Reduction(a) => Plan::OneTurn(OneTurn::Reduction(reducing(control.vtype, a))),
+        Instruction::Pack(a) => Plan::OneTurn(OneTurn::Packing(packing_at(control.vtype, a))),
+        Instruction::ScalarMove(a) => {
+            Plan::OneTurn(OneTurn::ScalarMove(scalar_moving(control.vtype, a)))
+        }
         Instruction::Arithmetic(a) => Plan::Elements(computing(x, control, a)),
+        Instruction::Permutation(a) => Plan::Elements(permuting(board, x, control, a)),
         Instruction::Memory(a) => Plan::Elements(transferring(board, x, control, a)),
     }
 }
@@ -460,6 +625,41 @@ fn reduction_sources(r: Reduction) -> Sources
     }
 }
 
+// viota.m or vcompress.vm.
+fn packing_sources(p: Packing) -> Sources
+    requires { ⌜ PackingInRange p ⌝ }
+    ensures { λ s. ⌜ Lists (packingSources p) s ⌝ }
+{
+    let vs2 = p.elements;
+    let nothing = Read::Constant(0);
+    let v0 = v0_source(p.masked, nothing);
+    Sources {
+        vs2,
+        vs1: Read::Bit(p.mask),
+        vd: nothing,
+        v0,
+    }
+}
+
+// The vector register that a scalar move reads.
+fn moved_register(op: ScalarMoveOp, vector: Group) -> Read
+    ensures { λ r. ⌜ r ≡ movedRegister op vector ⌝ }
+{
+    match op {
+        ScalarMoveOp::VmvXS => Read::Element(vector),
+        ScalarMoveOp::VmvSX => Read::Constant(0),
+    }
+}
+
+// A scalar move.
+fn move_sources(m: ScalarMove) -> Sources
+    ensures { λ r. ⌜ r ≡ record { vs2 = movedRegister (m .op) (m .vector); vs1 = Constant 0; vd = Constant 0; v0 = Constant 0 } ⌝ }
+{
+    let op = m.op;
+    let vector = m.vector;
+    vs2_and_v0(moved_register(op, vector), Read::Constant(0))
+}
+
 // An instruction that takes one turn.
 fn one_turn_sources(t: OneTurn) -> Sources
     requires { ⌜ OneTurnFits t ⌝ }
@@ -470,6 +670,8 @@ fn one_turn_sources(t: OneTurn) -> Sources
         OneTurn::Setting(_) => vs2_and_v0(nothing, nothing),
         OneTurn::Mask(m) => vs2_and_v0(Read::Bit(m.vs2), v0_source(m.masked, nothing)),
         OneTurn::Reduction(r) => reduction_sources(r),
+        OneTurn::Packing(p) => packing_sources(p),
+        OneTurn::ScalarMove(m) => move_sources(m),
     }
 }
 

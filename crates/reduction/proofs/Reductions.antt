@@ -1,5 +1,5 @@
 -- A reduction that is legal: its operator, its elements and its scalars are such as the fold relies on.
-use Prim.Native.Nat.{ℕ, _*_, _≤_, _<_}
+use Prim.Native.Nat.{ℕ, _*_, _≤_}
 use mathlib.Core.Path.{_≡_, refl, subst}
 use mathlib.Core.Bool.{true}
 use mathlib.Core.List.{List}
@@ -10,7 +10,7 @@ use Rattle.laws.proofs.Apart.{both-left, both-right}
 use Rattle.control.specs.declared.Board.{Board}
 use Rattle.control.specs.declared.Control.{Control}
 use Rattle.control.specs.Board.{Valid}
-use Rattle.control.specs.Vtype.{sewOf, vlmaxOf}
+use Rattle.control.specs.Vtype.{sewOf}
 use Rattle.control.proofs.Laws.{Possible, sew-ge}
 use Rattle.decode.specs.declared.ReductionOp.{ReductionOp}
 use Rattle.decode.specs.declared.ReductionOp.the-variants.{Vredsum, Vredand, Vredor, Vredxor, Vredminu, Vredmin, Vredmaxu, Vredmax}
@@ -19,17 +19,15 @@ use Rattle.decode.specs.declared.ReductionInstruction.{ReductionInstruction}
 use Rattle.decode.specs.declared.Instruction.{Instruction}
 use Rattle.decode.specs.declared.Instruction.the-variants as I
 use Rattle.decode.specs.Fields.{ReductionFits, Fits}
-use Rattle.layout.specs.Layout.{Inside}
-use Rattle.group.specs.declared.Group.{Group}
 use Rattle.group.specs.Group.{placedOf}
 use Rattle.plan.specs.declared.Reduction.{Reduction}
 use Rattle.plan.specs.declared.OneTurn.the-variants as O
 use Rattle.plan.specs.declared.Plan.{Plan}
 use Rattle.plan.specs.declared.Plan.the-variants as P
-use Rattle.plan.specs.Plan.{groupAt, registerAt, scalarEew, reducingOf, planOf}
+use Rattle.plan.specs.Plan.{scalarEew, reducingOf, planOf}
 use Rattle.legality.specs.Legal.{startable, reductionPlaced, oneTurnLegal}
-use Rattle.machine.proofs.Geometry.{Power, power-of, product-power, power-width, sew-power, placed-extent, inside, bit-inside}
-use Rattle.machine.proofs.PlanFacts.{supported}
+use Rattle.machine.proofs.Geometry.{Power, power-of, product-power, sew-power, bit-inside, register-inside}
+use Rattle.machine.proofs.PlanFacts.{element-inside}
 use Rattle.reduction.specs.Reducible.{Reducible}
 
 -- ---- the scalars: of SEW bits, or twice as wide
@@ -72,24 +70,7 @@ legal-facts b c r h =
       placed = both-right (leb (r .vd .eew) (b .elen)) (placedOf (b .elen) (r .vs2)) f;
     }
 
--- element 0 of a register alone
-scalar-inside : (b : Board) (eew reg : ℕ) → Valid b → Power eew → 8 ≤ eew → eew ≤ b .elen → reg < 32
-    → Inside (32 * b .vlenb) (b .vlenb) reg eew 0
-scalar-inside b eew reg w p l m u =
-    inside (b .vlenb) 1 (registerAt eew reg) 0 (power-width eew p l (omega (arith, w .elen))) (omega (arith, w .within)) (omega arith)
-    (lit< tt)
-
 module _ (b : Board) (c : Control) (w : Valid b) (t : Possible b c) where
-  -- element i of vs2, below vl
-  element-inside : (reg i : ℕ) → placedOf (b .elen) (groupAt (c .vtype) (sewOf (c .vtype)) reg) ≡ true → reg < 32 → i < c .vl
-      → Inside (32 * b .vlenb) (b .vlenb) reg (sewOf (c .vtype)) i
-  element-inside reg i h u l =
-      let s = supported b c t (omega arith) in
-      let v : ℕ = c .vtype in
-      let g : Group = groupAt v (sewOf v) reg in
-      let x = placed-extent b v w (s .0) (sewOf v) (sew-power v) reg 0 h in
-      inside (b .vlenb) (vlmaxOf b v) g i (x .width) (x .within) (omega (arith, x .ends u)) (omega (arith, s .1))
-
   reducing-reducible : (a : ReductionInstruction) → ReductionFits a → oneTurnLegal b c (O.Reduction (reducingOf (c .vtype) a)) ≡ true
       → Reducible (32 * b .vlenb) (b .vlenb) (reducingOf (c .vtype) a) (c .vl)
   unfolding reducingOf
@@ -101,12 +82,12 @@ module _ (b : Board) (c : Control) (w : Valid b) (t : Possible b c) where
           least = sew-ge (c .vtype);
           most = omega (arith, l .scalars-fit, w .elen);
           width = refl;
-          element = element-inside (a .vs2) i (l .placed) (f .vs2) k;
+          element = element-inside b c w t (a .vs2) i (l .placed) (f .vs2) k;
           mask = bit-inside (b .vlenb) 0 i (lit< tt) (omega (arith, t .vl));
         };
         accumulator = refl;
-        scalar = scalar-inside b _ (a .vs1) w (s .power) (s .low) (l .scalars-fit) (f .vs1);
-        result = scalar-inside b _ (a .vd) w (s .power) (s .low) (l .scalars-fit) (f .vd);
+        scalar = register-inside b _ (a .vs1) w (s .power) (s .low) (l .scalars-fit) (f .vs1);
+        result = register-inside b _ (a .vd) w (s .power) (s .low) (l .scalars-fit) (f .vd);
       }
 
   -- ---- the plan of a decoded word
@@ -117,6 +98,8 @@ module _ (b : Board) (c : Control) (w : Valid b) (t : Possible b c) where
   PlanReducible (P.OneTurn (O.Mask m)) = Unit {0}
   PlanReducible (P.OneTurn (O.Reduction r)) =
       oneTurnLegal b c (O.Reduction r) ≡ true → Reducible (32 * b .vlenb) (b .vlenb) r (c .vl)
+  PlanReducible (P.OneTurn (O.Packing p)) = Unit {0}
+  PlanReducible (P.OneTurn (O.ScalarMove m)) = Unit {0}
   PlanReducible (P.Elements e) = Unit {0}
 
   every-plan : (x : List ℕ) (i : Instruction) → Fits i → PlanReducible (planOf b x c i)
@@ -125,7 +108,10 @@ module _ (b : Board) (c : Control) (w : Valid b) (t : Possible b c) where
   every-plan x (I.Setting s) f = tt
   every-plan x (I.Mask m) f = tt
   every-plan x (I.Reduction a) f = reducing-reducible a f
+  every-plan x (I.Pack a) f = tt
+  every-plan x (I.ScalarMove a) f = tt
   every-plan x (I.Arithmetic a) f = tt
+  every-plan x (I.Permutation a) f = tt
   every-plan x (I.Memory a) f = tt
 
   pub reducible : (x : List ℕ) (i : Instruction) (r : Reduction) → Fits i → planOf b x c i ≡ P.OneTurn (O.Reduction r)

@@ -153,13 +153,14 @@ module _ (b : Board) (word : ℕ) (file x memory rights : List ℕ) (c : Control
         (turn-rejected (semanticsOf b w) _ _ Illegal (rejection-is w false (illegal-checked b c w (sym u ∙ e))))))
 
     pub one-turn-word : (n : ℕ) (t : OneTurn) (file′ x′ : List ℕ) (next : Control) (r : Turned) → p ≡ P.OneTurn t
-        → ((m : List ℕ) → coreAt file′ m x′ next ≡ oneTurnResult b t (coreAt file m x (withVstart c 0))) → r ≡ still Finished (dirtied next)
+        → ((m : List ℕ) → coreAt file′ m x′ next ≡ oneTurnResult b t (c .vstart) (coreAt file m x (withVstart c 0)))
+        → r ≡ still Finished (dirtied next)
         → left r file′ x′ memory rights ≡ turnOf b word n before
     one-turn-word n t file′ x′ next r e m f =
         let w : Plan = P.OneTurn t in
         let y = one-turn-planned b x c d p u t e in
-        let z : coreAt file′ memory x′ next ≡ resultAt b w (coreOf before) = m memory in
-        let i : next .vstart ≡ 0 = ap (λ (s : Core). s .control .vstart) z ∙ result-vstart b w (coreOf before) refl in
+        let z : coreAt file′ memory x′ next ≡ resultAt b w (c .vstart) (coreOf before) = m memory in
+        let i : next .vstart ≡ 0 = ap (λ (s : Core). s .control .vstart) z ∙ result-vstart b w (c .vstart) (coreOf before) refl in
         planned-turn n w (left r file′ x′ memory rights) (y .0)
         (ap (λ (t : Turned). left t file′ x′ memory rights) f
         ∙ ap (λ (v : ℕ). left (still Finished (dirtied (withVstart next v))) file′ x′ memory rights) i

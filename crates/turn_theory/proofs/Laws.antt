@@ -165,7 +165,7 @@ module _ (I : Semantics) where
   done r p = record {
     ending = finished;
     passed = remaining I p;
-    after = record { state = I .finish (passing I r p (remaining I p)); vstart = zero };
+    after = record { state = I .finish (p .vstart) (passing I r p (remaining I p)); vstart = zero };
   }
 
   pub runs-done : (t : Turn I) (p : Point I) → Runs (t .rights) p → remaining I p ≤ t .allowance → turn I t p ≡ done (t .rights) p
@@ -280,13 +280,13 @@ module _ (I : Semantics) where
 
   -- what every write and the finish keep, a turn keeps
   pub turn-keeps : (K : I .State → Type 0) → ((w : I .Write) (s : I .State) → K s → K (I .put w s))
-      → ((s : I .State) → K s → K (I .finish s))
+      → ((v : ℕ) (s : I .State) → K s → K (I .finish v s))
       → (t : Turn I) (p : Point I) → K (p .state) → K (turn I t p .after .state)
   turn-keeps K puts ends t p h = turn-cases t p (λ o. K (o .after .state)) (record {
     on-rejected = λ x e. h;
     on-trapped = λ x k g l f e. written-keeps I K puts (t .rights) (p .state) (p .vstart) k (p .state) h;
     on-paused = λ k g l e f. written-keeps I K puts (t .rights) (p .state) (p .vstart) k (p .state) h;
-    on-finished = λ g l. ends _ (written-keeps I K puts (t .rights) (p .state) (p .vstart) (remaining I p) (p .state) h);
+    on-finished = λ g l. ends _ _ (written-keeps I K puts (t .rights) (p .state) (p .vstart) (remaining I p) (p .state) h);
   })
 
 module _ (I : Semantics) (L : Lawful I) where
@@ -360,13 +360,24 @@ module _ (I : Semantics) (L : Lawful I) where
     moved-end n e =
         rw moved-state (sym (stretch-cut I L r′ (p .state) (p .vstart) (p .vstart) k n moved-legal (omega arith)) ∙ rw e)
 
+    -- the vstart of the last turn is another only where elements have been passed
+    moved-finish : I .finish (p .vstart + k) (passing I r′ (moved r p k) (remaining I (moved r p k)))
+        ≡ I .finish (p .vstart) (passing I r′ p (remaining I p))
+    moved-finish =
+        ap (I .finish (p .vstart + k)) (moved-end (remaining I (moved r p k)) moved-passed)
+        ∙ elim (decLt 0 k) [
+          | yes y ↦ L .finish-any _ (p .vstart + k) (p .vstart)
+              (rw (written-count I L r′ (p .state) (p .vstart) (remaining I p) (p .state)) (omega arith))
+          | no y ↦ ap (λ (v : ℕ). I .finish v (passing I r′ p (remaining I p))) (omega arith)
+        ]
+
     moved-done : _≡_ {A = TurnEnd I}
         (record { ending = finished; passed = k + remaining I (moved r p k); after = done I r′ (moved r p k) .after })
         (done I r′ p)
     moved-done = λ i. record {
       ending = finished;
       passed = moved-passed i;
-      after = record { state = I .finish (moved-end (remaining I (moved r p k)) moved-passed i); vstart = zero };
+      after = record { state = moved-finish i; vstart = zero };
     }
 
   opening-last : (t : Turn I) (us : List (Turn I)) → Opening I t us → I .Opens (t .rights) (finalRights I t us)
@@ -422,7 +433,7 @@ module _ (I : Semantics) (t : Turn I) (p : Point I) where
 
   -- a legal turn with no elements finishes at once, at any allowance, with nothing passed
   pub one-turn : I .rejection (t .rights) (p .state) (p .vstart) ≡ none → I .count (p .state) ≡ zero
-      → turn I t p ≡ record { ending = finished; passed = zero; after = record { state = I .finish (p .state); vstart = zero } }
+      → turn I t p ≡ record { ending = finished; passed = zero; after = record { state = I .finish (p .vstart) (p .state); vstart = zero } }
   unfolding turn written clean
   one-turn h e =
       let z : zero - p .vstart ≡ zero = omega arith in
@@ -490,7 +501,7 @@ module _ (I : Semantics) (L : Lawful I) (t : Turn I) (p : Point I) where
         rw (h .is-legal, m, passed-clean, le-ltb k k (le-refl k), lt-ltb k (remaining I p) l, ← h .now)
 
     pub passed-finish : k ≡ remaining I p
-        → turn I t p ≡ record { ending = finished; passed = k; after = record { state = I .finish s; vstart = zero } }
+        → turn I t p ≡ record { ending = finished; passed = k; after = record { state = I .finish (p .vstart) s; vstart = zero } }
     unfolding turn
     passed-finish e =
         let m : min (t .allowance) (remaining I p) ≡ k = omega (arith, h .within) in

@@ -19,6 +19,8 @@ pub record Lawful (I : Semantics) : Type 0 where
       → I .effect r′ s i ≡ I .effect r s i
   pub raised-legal : (r r′ : I .Rights) (s : I .State) (v : ℕ) → I .Opens r r′ → I .rejection r s v ≡ none → I .rejection r′ s v ≡ none
   pub bounded : (r : I .Rights) (s : I .State) (v : ℕ) → I .rejection r s v ≡ none → I .count s ≤ uncutAllowance
+  -- where there are elements, the finish does not go by vstart
+  pub finish-any : (s : I .State) (v w : ℕ) → 0 < I .count s → I .finish v s ≡ I .finish w s
   pub opens-trans : (r r′ r″ : I .Rights) → I .Opens r r′ → I .Opens r′ r″ → I .Opens r r″
   pub opens-refl : (r : I .Rights) → I .Opens r r
 
@@ -38,7 +40,7 @@ module _ (I : Semantics) (c : I .State → I .State) where
     pub effect : (r : I .Rights) (k : ℕ) → v ≤ k → k < I .count s → I .effect r (c s) k ≡ I .effect r s k
     pub put : (r : I .Rights) (k : ℕ) (w : I .Write) → v ≤ k → k < I .count s → I .effect r s k ≡ write w
         → (x : I .State) → I .put w (c x) ≡ c (I .put w x)
-    pub finish : (x : I .State) → I .finish (c x) ≡ c (I .finish x)
+    pub finish : (x : I .State) → I .finish v (c x) ≡ c (I .finish v x)
 
   -- a turn from a state with a change that it does not see is the turn from that state, and then the change
   abbrev pub PassesBy : Type 0

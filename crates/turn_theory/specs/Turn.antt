@@ -54,8 +54,8 @@ pub record Semantics : Type 1 where
   pub effect : Rights → State → ℕ → Effect Fault Write
   -- a write is carried out
   pub put : Write → State → State
-  -- what is done once no element remains: nothing for an instruction of elements, all for one that has none
-  pub finish : State → State
+  -- what is done once no element remains, by the vstart of the turn: nothing for an instruction of elements, all for one that has none
+  pub finish : ℕ → State → State
   -- the second rights are the first, or raised: for proofs, a turn does not ask it
   pub Opens : Rights → Rights → Type 0
 
@@ -124,7 +124,7 @@ module _ (I : Semantics) where
   ended false false r p n k = record {
     ending = finished;
     passed = n;
-    after = record { state = I .finish (passing r p n); vstart = zero };
+    after = record { state = I .finish (p .vstart) (passing r p n); vstart = zero };
   }
 
   -- a legal turn, by the number of elements that it may pass

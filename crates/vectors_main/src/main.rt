@@ -175,10 +175,13 @@ fn print_control(control: Control) {
     io::write_all(1, &text[..k]);
 }
 
-fn print_byte(label: &[u8], at: u64, byte: u8) {
-    io::write_all(1, label);
-    io::print_hex(1, at, 1);
-    io::write_all(1, b"=");
+// A changed byte: the first of those that follow one another has its index before it.
+fn print_byte(label: &[u8], at: u64, first: bool, byte: u8) {
+    if first {
+        io::write_all(1, label);
+        io::print_hex(1, at, 1);
+        io::write_all(1, b"=");
+    }
     io::print_hex(1, byte as u64, 2);
 }
 
@@ -187,10 +190,14 @@ fn print_bytes(label: &[u8], bytes: &mut [u8], before: &[u8]) {
     if before.len() < bytes.len() {
         return;
     }
+    let mut first = true;
     for k in 0..bytes.len() {
         if bytes[k] != before[k] {
-            print_byte(label, k as u64, bytes[k]);
+            print_byte(label, k as u64, first, bytes[k]);
             bytes[k] = before[k];
+            first = false;
+        } else {
+            first = true;
         }
     }
 }

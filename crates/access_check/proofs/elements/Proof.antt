@@ -1,5 +1,5 @@
 use borrow.Author.Needs.{needs}
-use Rattle.access_check.proofs.WordLaws.{no-transfer, of-transfer}
+use Rattle.access_check.proofs.WordLaws.{computes-not, permutes-not, of-transfer}
 use Rattle.access_check.proofs.elements.Statement.{statement}
 use Rattle.access_check.proofs.elements.Tie as tie
 
@@ -11,8 +11,11 @@ elements-spec =
     (λ c κs. search needs)
     (λ c. search needs)
     (λ c κs. search needs)
+    (λ c. search needs)
+    (λ c κs. search needs)
     (λ c κs.
     let start = c .before .before .before .before .before .before in
     rw (c .less .ensures) (start .pre .0 _ (c .before .before .action .given .1), start .pre .1))
-    (λ c t e. absurd (search no-transfer))
+    (λ c t e. absurd (search computes-not))
+    (λ c t e. absurd (search permutes-not))
     (λ c t e. search of-transfer))

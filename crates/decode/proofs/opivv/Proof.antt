@@ -13,6 +13,6 @@ opivv-spec =
     tie.close
     (tie.spec
     (λ c κs. search needs) (λ c. search (case (entryOf 0b000))) (λ c. search (case (entryOf 0b000))) (λ c. search (case (entryOf 0b000)))
-    (λ c. search (absent 0b000))
+    (λ c. search (case (entryOf 0b000))) (λ c. search (case (entryOf 0b000))) (λ c. search (absent 0b000))
     (λ c. shared 0b100 0b000 (c .before .before .before .args .funct6) _ tt tt (c .opivx .ensures)
     (⊎-elim (λ w. omega arith) (λ w. omega arith) (c .before .if1 .came))))

@@ -21,4 +21,5 @@ opivx-spec =
     (λ c. search (case (entryOf 0b100))) (λ c. search (case (entryOf 0b100))) (λ c. search (case (entryOf 0b100)))
     (λ c. search (case (entryOf 0b100))) (λ c. search (case (entryOf 0b100))) (λ c. search (case (entryOf 0b100)))
     (λ c. search (case (entryOf 0b100))) (λ c. search (case (entryOf 0b100))) (λ c. search (case (entryOf 0b100)))
+    (λ c. search (case (entryOf 0b100))) (λ c. search (case (entryOf 0b100))) (λ c. search (case (entryOf 0b100)))
     (λ c. search (case (entryOf 0b100))) (λ c. missed (inColumn 0b100) listing (c .before .args .funct6) (c .match .rest)))

@@ -25,5 +25,5 @@ opmvv-spec =
     (λ c. search (case (entryOf 0b010))) (λ c. search (case (entryOf 0b010))) (λ c. search (case (entryOf 0b010)))
     (λ c. search (case (entryOf 0b010))) (λ c. search (case (entryOf 0b010))) (λ c. search (case (entryOf 0b010)))
     (λ c. search (case (entryOf 0b010))) (λ c. search (case (entryOf 0b010))) (λ c. search (case (entryOf 0b010)))
-    (λ c. search (case (entryOf 0b010)))
+    (λ c. search (case (entryOf 0b010))) (λ c. search (case (entryOf 0b010)))
     (λ c. missed (inColumn 0b010) listing (c .before .args .funct6) (c .match .rest)))

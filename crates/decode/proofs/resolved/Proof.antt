@@ -12,7 +12,8 @@ resolved-spec =
     (tie.spec
     (λ c. search needs) (λ c κs. search needs) (λ c. search needs) (λ c κs. search needs) (λ c κs. search needs) (λ c. search needs)
     (λ c κs. search needs) (λ c κs. search needs) (λ c. search needs) (λ c κs. search needs) (λ c κs. search needs) (λ c. search needs)
-    (λ c. search needs) (λ c. search needs) (λ c. search needs) (λ c. search needs) (λ c. search (arm resolvedOf))
-    (λ c. search (arm resolvedOf, looked-up))
+    (λ c. search needs) (λ c. search needs) (λ c. search needs) (λ c. search needs) (λ c. search needs) (λ c. search needs)
+    (λ c. search needs) (λ c. search (arm resolvedOf)) (λ c. search (arm resolvedOf, looked-up))
     (λ c. search (arm resolvedOf, looked-up)) (λ c. search (arm resolvedOf, looked-up)) (λ c. search (arm resolvedOf))
-    (λ c. search (arm resolvedOf)) (λ c. search (arm resolvedOf)) (λ c. search (arm resolvedOf)) (λ c. search (arm resolvedOf)))
+    (λ c. search (arm resolvedOf)) (λ c. search (arm resolvedOf)) (λ c. search (arm resolvedOf)) (λ c. search (arm resolvedOf))
+    (λ c. search (arm resolvedOf)) (λ c. search (arm resolvedOf)) (λ c. search (arm resolvedOf)))

@@ -9,5 +9,5 @@ unfolding vwxunary0 find
 to-scalar-spec =
     tie.close
     (tie.spec
-    (λ c. search (case (find vwxunary0))) (λ c. search (case (find vwxunary0)))
+    (λ c. search (case (find vwxunary0))) (λ c. search (case (find vwxunary0))) (λ c. search (case (find vwxunary0)))
     (λ c. missed everyRow vwxunary0 (c .before .args .vs1) (c .match .rest)))

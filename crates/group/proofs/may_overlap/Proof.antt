@@ -6,4 +6,4 @@ use Rattle.group.proofs.may_overlap.Tie as tie
 
 pub may-overlap-spec : {M : Type 1} → statement M
 may-overlap-spec =
-    tie.close (tie.spec (λ c κs. search needs) (λ c κs. search needs) (λ c κs. search needs) (λ c. search overlap-is))
+    tie.close (tie.spec (λ c κs. search needs) (λ c κs. search needs) (λ c. search overlap-is))

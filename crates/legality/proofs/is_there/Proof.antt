@@ -10,5 +10,7 @@ is-there-spec =
     (λ c. search needs)
     (λ c κs. search needs)
     (λ c. search needs)
+    (λ c. search needs)
     (λ c. search there-is)
+    (λ c. search needs)
     (λ c. search needs))

@@ -1,5 +1,7 @@
 use borrow.Author.Needs.{needs}
-use Rattle.plan.proofs.RangeLaws.{one-turn-range, elements-range}
+use Rattle.plan.specs.declared.Plan.the-variants as P
+use Rattle.plan.specs.Range.{PlanFits}
+use Rattle.plan.proofs.OperandLaws.{variant-fits}
 use Rattle.legality.specs.Legal.{kindLegal}
 use Rattle.legality.proofs.LegalLaws.{kind-by}
 use Rattle.legality.proofs.kind_legal.Statement.{statement}
@@ -12,9 +14,9 @@ kind-legal-spec =
     (tie.spec
     (λ c. search needs)
     (λ c. search needs)
-    (λ c κs. (search needs, search one-turn-range))
+    (λ c κs. (search needs, search (variant-fits PlanFits P.OneTurn)))
     (λ c. search needs)
-    (λ c κs. search elements-range)
+    (λ c κs. search (variant-fits PlanFits P.Elements))
     (λ c. search kind-by)
     (λ c. search kind-by)
     (λ c. search kind-by))

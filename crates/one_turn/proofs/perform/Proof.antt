@@ -1,7 +1,7 @@
 use mathlib.Core.Logic.{⊎-elim}
 use borrow.Author.Needs.{needs}
-use Rattle.one_turn.proofs.ResultLaws.{setting-fits, mask-holds, mask-is-apart, reduction-holds}
-use Rattle.one_turn.proofs.ResultLaws.{setting-left, mask-left, reduction-left}
+use Rattle.one_turn.proofs.ResultLaws.{setting-fits, mask-holds, mask-is-apart, reduction-holds, packing-holds, move-holds}
+use Rattle.one_turn.proofs.ResultLaws.{setting-left, mask-left, reduction-left, packing-left, move-left}
 use Rattle.one_turn.proofs.perform.Statement.{statement}
 use Rattle.one_turn.proofs.perform.Tie as tie
 
@@ -17,12 +17,24 @@ perform-spec =
     (λ c κs. (search mask-holds, (search needs, search mask-is-apart)))
     (λ c. search needs)
     (λ c κs. search reduction-holds)
+    (λ c. search needs)
+    (λ c κs. search packing-holds)
+    (λ c. search needs)
+    (λ c κs. search move-holds)
     (λ c κs. search needs)
-    (λ c. ⊎-elim (λ w. search needs) (λ w. search needs) (c .before .match .came))
-    (λ c. ⊎-elim (λ w. search needs) (λ w. search needs) (c .before .match .came))
+    (λ c.
+    ⊎-elim (λ w. rw (w .10) (search needs)) (⊎-elim (λ w. rw (w .7) (search needs))
+    (⊎-elim (λ w. rw (w .7) (search needs)) (λ w. rw (w .10) (search needs)))) (c .before .match .came))
+    (λ c.
+    ⊎-elim (λ w. rw (w .11) (search needs)) (⊎-elim (λ w. rw (w .8)) (⊎-elim (λ w. rw (w .8)) (λ w. rw (w .11) (search needs))))
+    (c .before .match .came))
     (λ c.
     let given = c .before .before .before .before .args in
     ⊎-elim
     (λ w. mask-left _ _ _ _ _ _ _ _ _ (given .control) _ (w .1 .given .1) (c .with-vstart .ensures) (w .5 .ensures) (w .10) (w .11))
+    (⊎-elim
     (λ w. reduction-left _ _ _ _ _ _ _ _ (given .control) _ (w .1 .given .1) (c .with-vstart .ensures) (w .4 .ensures) (w .7) (w .8))
+    (⊎-elim
+    (λ w. packing-left _ _ _ _ _ _ _ _ (given .control) _ (w .1 .given .1) (c .with-vstart .ensures) (w .4 .ensures) (w .7) (w .8))
+    (λ w. move-left _ _ _ _ _ _ _ _ _ (given .control) _ (w .1 .given .1) (c .with-vstart .ensures) (w .5 .ensures) (w .10) (w .11))))
     (c .before .match .came)))

@@ -1,6 +1,7 @@
 use lib.Dec.{lit<}
 use borrow.Author.Needs.{needs}
-use Rattle.one_turn.proofs.MaskLaws.{bit-inside, put-active, put-inactive}
+use Rattle.machine.proofs.Writing.{put-written, put-nothing}
+use Rattle.one_turn.proofs.MaskLaws.{bit-inside}
 use Rattle.one_turn.proofs.set_bit.Statement.{statement}
 use Rattle.one_turn.proofs.set_bit.Tie as tie
 
@@ -12,6 +13,6 @@ set-bit-spec =
     (λ c κs. search needs)
     (λ c κs. search bit-inside)
     (λ c. search needs)
-    (λ c. search put-active)
+    (λ c. search put-written)
     (λ c. search needs)
-    (λ c. search put-inactive))
+    (λ c. search put-nothing))

@@ -1,6 +1,11 @@
 use borrow.Author.Needs.{needs}
+use Rattle.decode.specs.declared.Instruction.the-variants as I
+use Rattle.decode.specs.Fields.{Fits}
+use Rattle.plan.specs.declared.OneTurn.the-variants as O
+use Rattle.plan.specs.declared.Plan.the-variants as P
 use Rattle.plan.specs.Plan.{planOf}
-use Rattle.plan.proofs.PlanLaws.{arithmetic-fits, access-fits, planned, reduction-planned, arithmetic-planned, memory-planned}
+use Rattle.plan.proofs.OperandLaws.{variant-fits}
+use Rattle.plan.proofs.PlanLaws.{planned, planned-by}
 use Rattle.plan.proofs.plan_of.Statement.{statement}
 use Rattle.plan.proofs.plan_of.Tie as tie
 
@@ -15,12 +20,21 @@ plan-of-spec =
     (λ c. search needs)
     (λ c κs. search needs)
     (λ c. search needs)
-    (λ c κs. search (needs, arithmetic-fits))
+    (λ c κs. search needs)
     (λ c. search needs)
-    (λ c κs. search (needs, access-fits))
+    (λ c κs. search needs)
+    (λ c. search needs)
+    (λ c κs. search (needs, variant-fits Fits I.Arithmetic))
+    (λ c. search needs)
+    (λ c κs. search (needs, variant-fits Fits I.Permutation))
+    (λ c. search needs)
+    (λ c κs. search (needs, variant-fits Fits I.Memory))
     (λ c. search planned)
     (λ c. search planned)
     (λ c. search planned)
-    (λ c. search reduction-planned)
-    (λ c. search arithmetic-planned)
-    (λ c. search memory-planned))
+    (λ c. search (planned-by (λ r. P.OneTurn (O.Reduction r))))
+    (λ c. search (planned-by (λ p. P.OneTurn (O.Packing p))))
+    (λ c. search (planned-by (λ m. P.OneTurn (O.ScalarMove m))))
+    (λ c. search (planned-by P.Elements))
+    (λ c. search (planned-by P.Elements))
+    (λ c. search (planned-by P.Elements)))

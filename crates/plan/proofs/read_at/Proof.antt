@@ -1,6 +1,6 @@
 use borrow.Author.Needs.{needs}
 use Rattle.plan.specs.Plan.{readAt}
-use Rattle.plan.proofs.OperandLaws.{sew-most, eew-most, in-size, in-group}
+use Rattle.plan.proofs.OperandLaws.{between, sew-most, eew-most, in-group}
 use Rattle.plan.proofs.read_at.Statement.{statement}
 use Rattle.plan.proofs.read_at.Tie as tie
 
@@ -12,5 +12,5 @@ read-at-spec =
     (λ c κs. search needs) (λ c κs. search sew-most) (λ c κs. search eew-most)
     (λ c. search needs) (λ c. search needs) (λ c. search needs) (λ c. search needs) (λ c. search needs) (λ c. search needs)
     (λ c. search needs)
-    (λ c. search in-size) (λ c. search in-size)
+    (λ c. search (between readAt)) (λ c. search (between readAt))
     (λ c. search in-group) (λ c. search in-group) (λ c. search in-group) (λ c. search in-group) (λ c. search in-group))

@@ -1,5 +1,7 @@
 use borrow.Author.Needs.{needs}
-use Rattle.plan.proofs.OperandLaws.{sew-some, width-is, scalar-fits, immediate-fits, vector-source, scalar-source, immediate-source}
+use Rattle.decode.specs.declared.Source.the-variants.{Scalar, Immediate}
+use Rattle.decode.specs.Fields.{SourceFits}
+use Rattle.plan.proofs.OperandLaws.{variant-fits, sew-some, width-is, vector-source, scalar-source, immediate-source}
 use Rattle.plan.proofs.second.Statement.{statement}
 use Rattle.plan.proofs.second.Tie as tie
 
@@ -8,5 +10,6 @@ second-spec =
     tie.close
     (tie.spec
     (λ c κs. search needs) (λ c. search needs) (λ c κs. search needs) (λ c. search needs)
-    (λ c κs. search scalar-fits) (λ c κs. search width-is) (λ c. search needs) (λ c κs. search (needs, sew-some, immediate-fits))
+    (λ c κs. search (variant-fits SourceFits Scalar)) (λ c κs. search width-is) (λ c. search needs)
+    (λ c κs. search (needs, sew-some, variant-fits SourceFits Immediate))
     (λ c. search vector-source) (λ c. search scalar-source) (λ c. search immediate-source))

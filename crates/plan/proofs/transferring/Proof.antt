@@ -1,6 +1,8 @@
 use borrow.Author.Needs.{needs}
-use Rattle.plan.proofs.OperandLaws.{sew-small}
-use Rattle.plan.proofs.AccessLaws.{access-some, access-most, segment-fits, stride-fits, whole-emul, whole-emul32, whole-bits}
+use Rattle.decode.specs.declared.Mode.the-variants as M
+use Rattle.decode.specs.Fields.{ModeFits}
+use Rattle.plan.proofs.OperandLaws.{variant-fits, sew-small}
+use Rattle.plan.proofs.AccessLaws.{access-some, access-most, segment-fits, whole-emul, whole-emul32, whole-bits}
 use Rattle.plan.proofs.AccessLaws.{unit-is, strided-is, indexed-is, mask-is, whole-is}
 use Rattle.plan.proofs.transferring.Statement.{statement}
 use Rattle.plan.proofs.transferring.Tie as tie
@@ -20,7 +22,7 @@ transferring-spec =
     (λ c κs. search group-eew)
     (λ c κs. search needs)
     (λ c. search needs)
-    (λ c κs. search stride-fits)
+    (λ c κs. search (variant-fits ModeFits M.Strided))
     (λ c κs. search needs)
     (λ c κs. search group-eew)
     (λ c κs. search needs)

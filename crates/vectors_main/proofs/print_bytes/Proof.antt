@@ -15,8 +15,9 @@ pub print-bytes-spec : {M : Type 1} → statement M
 print-bytes-spec =
     tie.close
     (tie.spec
-    (λ label bytes₀ before k₀ k-end bytes k. (length bytes ≡ length bytes₀) × ((k-end ≡ length bytes₀) × (length bytes₀ ≤ length before)))
-    (λ label bytes₀ before k₀ k-end bytes k. k-end - k)
+    (λ label bytes₀ before first₀ k₀ k-end bytes first k.
+    (length bytes ≡ length bytes₀) × ((k-end ≡ length bytes₀) × (length bytes₀ ≤ length before)))
+    (λ label bytes₀ before first₀ k₀ k-end bytes first k. k-end - k)
     (λ c. search needs)
     (λ c. search needs)
     (λ c. search needs)
