@@ -2,4 +2,5 @@ pub mod Values
 pub mod SourceCases
 pub mod SegmentCases
 pub mod ReductionCases
+pub mod PermutationCases
 pub mod TrapCases
