@@ -94,6 +94,9 @@ class Machine:
         opcode, vd, funct3, rs1, vs2 = word & 127, word >> 7 & 31, word >> 12 & 7, word >> 15 & 31, word >> 20 & 31
         if opcode in (0x07, 0x27) and word >> 25 == 1 and vs2 == 0 and funct3 in (0, 5, 6, 7):
             return self.access(self.group(vd, 1 << funct3 % 4), 1 << funct3 % 4, self.x[rs1], opcode == 0x27)
+        if opcode == 0x57 and word >> 26 in (0x0e, 0x0f) and word >> 25 & 1 and funct3 in (3, 4, 6):
+            offset = {3: rs1, 4: self.x[rs1], 6: 1}[funct3]
+            return self.slide(word >> 26 == 0x0e, vd, vs2, offset, self.x[rs1] if funct3 == 6 else None)
         forms, result = OPERATIONS.get(word >> 26, ((), None))
         if opcode != 0x57 or not word >> 25 & 1 or funct3 not in forms or word >> 26 == 0x17 and vs2:
             raise Unknown
@@ -105,6 +108,23 @@ class Machine:
             other = self.number(self.file, b + size * i, size) if scalar is None else scalar
             value = result(self.number(self.file, a + size * i, size), other, self.number(self.file, d + size * i, size))
             self.put(self.file, d + size * i, size, value)
+            return 0
+        return element
+
+    def slide(self, up, vd, vs2, offset, scalar):
+        """vslideup and vslidedown; by one, with the scalar put in: vslide1up and vslide1down. Elements come from the file before."""
+        size, eighths = 1 << self.vtype // 8 % 8, (8, 16, 32, 64, 0, 1, 2, 4)[self.vtype % 8]
+        d, a, before = self.group(vd, size), self.group(vs2, size), bytes(self.file)
+        vlmax = 2 * eighths // size
+        if up and abs(vd - vs2) < max(eighths // 8, 1):
+            raise Illegal
+
+        def element(i):
+            k = i - offset if up else i + offset
+            if scalar is not None and i == (0 if up else self.vl - 1):
+                self.put(self.file, d + size * i, size, scalar)
+            elif k >= 0:
+                self.put(self.file, d + size * i, size, self.number(before, a + size * k, size) if k < vlmax else 0)
             return 0
         return element
 
