@@ -13,6 +13,7 @@ pub struct Row {
 const OPIVV: u32 = 0;
 const OPMVV: u32 = 2;
 const OPIVI: u32 = 3;
+const OPIVX: u32 = 4;
 
 // A word of opcode OP-V: vm is 1 where the word is not masked.
 const fn op(funct6: u32, vm: u32, vs2: u32, vs1: u32, funct3: u32, vd: u32) -> u32 {
@@ -71,7 +72,7 @@ const fn one(name: &'static str, word: u32, answer: u64, registers: usize) -> Ro
 
 pub const ILLEGAL: Row = one("no word of ours (answer 2)", 0, 2, 512);
 
-pub const ROWS: [Row; 30] = [
+pub const ROWS: [Row; 34] = [
     row("vadd.vv e8 m8", op(0x00, 1, 16, 24, OPIVV, 8), 8, 8, 128),
     row("vadd.vv e8 m8, masked", op(0x00, 0, 16, 24, OPIVV, 8), 8, 8, 128),
     row("vadd.vv e32 m8", op(0x00, 1, 16, 24, OPIVV, 8), 32, 8, 32),
@@ -94,9 +95,14 @@ pub const ROWS: [Row; 30] = [
     row("vl8re8.v", access(0x07, 7, 0, 8, 0, 8), 8, 8, 128),
     row("vlseg3e8.v m2", access(0x07, 2, 0, 0, 0, 8), 8, 2, 32),
     row("vsseg3e8.v m2", access(0x27, 2, 0, 0, 0, 8), 8, 2, 32),
+    // x11 is 3
+    row("vslidedown.vx e8 m8", op(0x0F, 1, 16, 11, OPIVX, 8), 8, 8, 128),
+    row("vrgather.vv e8 m8", op(0x0C, 1, 16, 24, OPIVV, 8), 8, 8, 128),
     row("vmand.mm, vl 128", op(0x19, 1, 2, 3, OPMVV, 1), 8, 8, 128),
     one_turn("vredsum.vs e8 m8", op(0x00, 1, 16, 24, OPMVV, 8), 8, 8, 128),
     one_turn("vwredsum.vs e16 m8", op(0x31, 1, 16, 24, OPIVV, 8), 16, 8, 64),
+    one_turn("viota.m e8 m8", op(0x14, 1, 2, 16, OPMVV, 8), 8, 8, 128),
+    one_turn("vcompress.vm e8 m8", op(0x17, 1, 16, 2, OPMVV, 8), 8, 8, 128),
     one("vcpop.m, vl 128", op(0x10, 1, 2, 16, OPMVV, 12), 0, 512),
     one("vmsbf.m, vl 128", op(0x14, 1, 2, 1, OPMVV, 1), 0, 512),
     // vsetvli x12, x0, e8 m8: vl becomes 128

@@ -157,8 +157,8 @@ pub struct Turned {
 }
 
 /// One turn of the instruction `word`, of at most `allowance` elements; of a word that moves segments, of at most so many segments. A
-/// setting word, a reduction, vcpop.m, vfirst.m, vmsbf.m, vmsif.m and vmsof.m take one turn at any allowance and pass 0. VS is Dirty after
-/// it, unless the word is illegal or a part refused.
+/// setting word, a reduction, vcpop.m, vfirst.m, vmsbf.m, vmsif.m, vmsof.m, viota.m, vcompress.vm, vmv.x.s and vmv.s.x take one turn at any
+/// allowance and pass 0. VS is Dirty after it, unless the word is illegal or a part refused.
 pub fn turn(
     word: u32,
     allowance: u32,
