@@ -49,8 +49,8 @@ enum {
  * fault, call it again with the same word. Lengths count elements: bytes of registers, memory and rights, numbers of scalars.
  * Of a word that moves segments of 2 to 8 fields, an element is a segment: the allowance, passed, vstart and the mask count segments, and
  * nothing is moved of a segment that has a faulting field. Setting words, reductions, vcpop.m, vfirst.m, vmsbf.m, vmsif.m, vmsof.m,
- * viota.m, vcompress.vm, vmv.x.s and vmv.s.x take one turn at any allowance and pass 0. Elements that a slide up leaves as they are, below its
- * offset, are passed.
+ * viota.m, vcompress.vm, vmv.x.s and vmv.s.x take one turn at any allowance and pass 0. Elements that a slide up leaves as they are, below
+ * its offset, are passed.
  *   passed    gets the number of elements passed, masked-off ones included
  *   address   gets the address of the first byte of the faulting element (answers 4 to 7), or of a segment's first faulting field;
  *             otherwise 0
