@@ -1,7 +1,7 @@
 // viota.m and vcompress.vm (sections 16.8 and 17.5 of document 000): one walk over the elements, which counts the set bits of a mask.
 ghost use mathlib.Core.Path.{_≡_};
-ghost use mathlib.Core.Bool.{true, cond};
-ghost use Prim.Native.Nat.{_+_, _%_, _^_, _≤_, _<_};
+ghost use mathlib.Core.Bool.{cond};
+ghost use Prim.Native.Nat.{_+_, _%_, _^_};
 ghost use lib.ListN.{length};
 ghost use Rattle.width.specs.Width.{flag};
 ghost use Rattle.layout.specs.Layout.{withElement};

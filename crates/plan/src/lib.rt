@@ -10,7 +10,8 @@ ghost use Rattle.decode.specs.Fields.{SourceFits, ArithmeticFits, PermutationFi
 ghost use Rattle.plan.specs.declared.Read.the-variants.{Constant};
 ghost use Rattle.plan.specs.Plan.{scalarOf, groupsAt, readAt, groupOf, secondOf, v0Read, v0Masks};
 ghost use Rattle.plan.specs.Plan.{computingOf, indexOf, movedElements, movedBy, permutingOf, movingOf, transferringOf};
-ghost use Rattle.plan.specs.Plan.{registerAt, scalarSize, reducingOf, packedElements, countedMask, packingOf, scalarMovingOf, planOf};
+ghost use Rattle.plan.specs.Plan.{registerAt, scalarSize, reducingOf, packedElements, countedMask, packingOf};
+ghost use Rattle.plan.specs.Plan.{scalarMovingOf, planOf};
 ghost use Rattle.plan.specs.Sources.{v0Source, elementSources, reductionSources, packingSources, movedRegister, oneTurnSources};
 ghost use Rattle.plan.specs.Sources.{sourcesOf};
 ghost use Rattle.plan.specs.Range.{InRange, ReductionInRange, PackingInRange, OneTurnFits, PlanFits, Lists};

@@ -3,7 +3,6 @@ use Prim.Native.Nat.{_-_, _≤_}
 use mathlib.Core.Path.{_≡_}
 use native.Mathlib.Nat.{sub-zero}
 use native.Mathlib.Omega.{arith}
-use borrow.Author.Needs.{needs}
 use Rattle.machine.specs.OneTurn.{firstOf}
 use Rattle.one_turn.proofs.MaskLaws.{v0-inside, vs2-inside, first-here, first-more, first-none}
 use Rattle.one_turn.proofs.first.Statement.{statement}

@@ -1,4 +1,3 @@
-use borrow.Author.Needs.{needs}
 use Rattle.permutation.proofs.PermutationLaws.{vs2-below, vs2-past}
 use Rattle.permutation.proofs.vs2_at.Statement.{statement}
 use Rattle.permutation.proofs.vs2_at.Tie as tie
