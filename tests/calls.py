@@ -9,13 +9,15 @@ writes stdin (the cases) and stdout (what the program must print) from files wit
     write csr value vtype vl vstart vxrm vxsat vs : answer vtype vl vstart vxrm vxsat vs
     view file-length first count : answer first-byte size
 
-csr, value and vtype are hex, the others decimal. The program prints what a write and a view give twice, each by two calls, and of a view a
-checksum of the bytes found, in a file whose byte k is `byte(k)`.
+on the first board, or on the smaller one where the file's name begins with small_. csr, value and vtype are hex, the others decimal. The
+program prints what a write and a view give twice, each by two calls, and of a view a checksum of the bytes found, in a file whose byte k is
+`byte(k)`.
 """
+import os
 import sys
 
 def byte(k):
-    return (k // 16 + k % 16 * 16) % 256
+    return (k // 8 + k % 8 * 32) % 256
 
 def checksum(start, size):
     total = 0
@@ -26,20 +28,22 @@ def checksum(start, size):
 def numbers(words, hexadecimal):
     return [int(word, 16 if k in hexadecimal else 10) for k, word in enumerate(words)]
 
-def case(line):
+def case(is_small, line):
     """The line of stdin, and those of stdout."""
+    letters = 'RWV' if is_small else 'rwv'
     given, gives = line.strip().split(' : ')
     kind, *words = given.split()
     if kind == 'read':
         csr, *control = numbers(words, (0, 1))
-        return 'r', [csr, 0] + control, [gives]
+        return letters[0], [csr, 0] + control, [gives]
     if kind == 'write':
-        return 'w', numbers(words, (0, 1, 2)), [gives] * 2
+        return letters[1], numbers(words, (0, 1, 2)), [gives] * 2
     start, size = (int(word) for word in gives.split()[1:])
-    return 'v', numbers(words, ()) + [0] * 5, ['%s %d' % (gives, checksum(start, size))] * 2
+    return letters[2], numbers(words, ()) + [0] * 5, ['%s %d' % (gives, checksum(start, size))] * 2
 
 def main():
-    cases = [case(line) for name in sys.argv[2:] for line in open(name) if line.strip() and line[0] != '#']
+    cases = [case(os.path.basename(name).startswith('small_'), line)
+             for name in sys.argv[2:] for line in open(name) if line.strip() and line[0] != '#']
     with open(sys.argv[1] + '/stdin', 'w') as f:
         f.write(''.join(kind + ''.join('%016x' % x for x in xs) + '\n' for kind, xs, _ in cases))
     with open(sys.argv[1] + '/stdout', 'w') as f:

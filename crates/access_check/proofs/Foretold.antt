@@ -11,8 +11,8 @@ use Rattle.laws.proofs.Chain.{either}
 use Rattle.answer.specs.declared.Answer.{Answer}
 use Rattle.answer.specs.declared.Answer.the-variants.{Finished, Paused, Illegal}
 use Rattle.control.specs.declared.Board.{Board}
-use Rattle.control.specs.Board.{Valid, base}
-use Rattle.control.proofs.Laws.{base-valid, Possible, possible-apart}
+use Rattle.control.specs.Board.{Valid, base, small}
+use Rattle.control.proofs.Laws.{base-valid, small-valid, Possible, possible-apart}
 use Rattle.decode.specs.Word.{decodeOf}
 use Rattle.decode.proofs.Fields.{fits}
 use Rattle.access.specs.declared.FaultPlace.{FaultPlace}
@@ -201,4 +201,8 @@ foretold-on b w = record {
 
 -- the board of document 01, whose check `access_check::check` promises
 pub foretold : Foretold base
-foretold = foretold-on base (base-valid base refl)
+foretold = foretold-on base base-valid
+
+-- the smaller board, whose check `access_check::small_check` promises
+pub small-foretold : Foretold small
+small-foretold = foretold-on small small-valid

@@ -16,7 +16,7 @@ use Rattle.answer.specs.declared.Verdict.{Verdict}
 use Rattle.answer.specs.declared.Verdict.the-variants.{Accepted, Refused}
 use Rattle.control.specs.declared.Board.{Board}
 use Rattle.control.specs.declared.Control.{Control}
-use Rattle.control.specs.Board.{Valid, base}
+use Rattle.control.specs.Board.{Valid}
 use Rattle.control.specs.Vtype.{vlmaxOf}
 use Rattle.control.proofs.Laws.{Possible, possible-apart}
 use Rattle.decode.specs.declared.Access.{Access}
@@ -272,5 +272,7 @@ module _ (b : Board) (word : ℕ) (file x memory rights : List ℕ) (c : Control
             → r ≡ accessCheckOf b word before
         elements-word r = elements-check b file x memory rights c e runs d (decoded-fits word d k) planned is-unit word r k
 
-pub on-base : (b : Board) (word : ℕ) (s : State) (r : Checked) → b ≡ base → r ≡ accessCheckOf b word s → r ≡ accessCheckOf base word s
-on-base b word s r e h = rw (← e) h
+-- ---- the check on a board b is that on the board that a promise names, where b is that board
+pub checked-by : (b named : Board) (word : ℕ) (s : State) (r : Checked) → b ≡ named → r ≡ accessCheckOf b word s
+    → r ≡ accessCheckOf named word s
+checked-by b named word s r e h = rw (← e) h

@@ -2,7 +2,7 @@
 ghost use mathlib.Core.Path.{_≡_};
 ghost use Prim.Native.Nat.{_-_};
 ghost use lib.ListN.{length};
-ghost use Rattle.control.specs.Board.{Valid, base};
+ghost use Rattle.control.specs.Board.{Valid, base, small};
 ghost use Rattle.plan.specs.declared.Action.the-variants as Act;
 ghost use Rattle.plan.specs.declared.Transfer.{Transfer};
 ghost use Rattle.machine.specs.Call.{given};
@@ -99,7 +99,7 @@ fn elements(
 }
 
 // Every word, on a board: refusals 32 to 36, then 2, then the elements.
-fn check_on(
+pub fn check_on(
     board: Board,
     word: u32,
     registers: &[u8],
@@ -150,6 +150,30 @@ pub fn check(
 {
     check_on(
         Board::base(),
+        word,
+        registers,
+        scalars,
+        memory,
+        rights,
+        control,
+    )
+}
+
+// The same on the smaller board.
+pub fn small_check(
+    word: u32,
+    registers: &[u8],
+    scalars: &[u64],
+    memory: &[u8],
+    rights: &[u8],
+    control: Control,
+) -> Checked
+    ensures { λ r. ⌜
+        r ≡ accessCheckOf small word
+        (given (now (registers .entry)) (now (scalars .entry)) (now (memory .entry)) (now (rights .entry)) control) ⌝ }
+{
+    check_on(
+        Board::small(),
         word,
         registers,
         scalars,

@@ -1,10 +1,13 @@
 // Runs the reads and writes by CSR number and the register view on given cases. Each line of standard input is a letter and eight numbers
-// of 16 hex digits: 'r' csr, 0, control record; 'w' csr, value, control record; 'v' length of the file, first register, count, and zeros.
-// A read writes one line. A write writes two: by the call that is lent the record, then by the call that takes it by value. A view
-// writes two: by `view_with`, then by `place` and `view`; the start is told by the bytes found there, and a checksum is of all.
+// of 16 hex digits: 'r' csr, 0, control record; 'w' csr, value, control record; 'v' length of the file, first register, count, and zeros;
+// on the smaller board 'R', 'W' and 'V'. A read writes one line. A write writes two: by the call that is lent the record, then by the call
+// that takes it by value. A view writes two: by `view_with`, then by `place` and `view`; the start is told by the bytes found there, and a
+// checksum is of all.
 ghost use Prim.Native.Nat.{_≤_, _<_};
 use control::Control;
+use csr::CsrRead;
 use csr::CsrWrite;
+use view::ViewPlace;
 
 // ---- CSR numbers
 
@@ -29,8 +32,7 @@ fn print_written(written: CsrWrite) {
     io::write_all(1, b"\n");
 }
 
-fn read(line: &[u8]) {
-    let found = csr::read(control_of(line), hexadecimal::number(line, 1, 16));
+fn print_read(found: CsrRead) {
     let answer = found.answer;
     io::print_decimal(1, answer::number(answer));
     io::write_all(1, b" ");
@@ -38,20 +40,35 @@ fn read(line: &[u8]) {
     io::write_all(1, b"\n");
 }
 
-fn write(line: &[u8]) {
+fn read(is_small: bool, line: &[u8]) {
+    let control = control_of(line);
+    let csr = hexadecimal::number(line, 1, 16);
+    if is_small {
+        print_read(csr::small_read(control, csr));
+    } else {
+        print_read(csr::read(control, csr));
+    }
+}
+
+fn write(is_small: bool, line: &[u8]) {
     let control = control_of(line);
     let csr = hexadecimal::number(line, 1, 16);
     let value = hexadecimal::number(line, 17, 16);
-    print_written(csr_field::written(control, csr, value));
-    print_written(csr::write(control, csr, value));
+    if is_small {
+        print_written(csr_field::small_written(control, csr, value));
+        print_written(csr::small_write(control, csr, value));
+    } else {
+        print_written(csr_field::written(control, csr, value));
+        print_written(csr::write(control, csr, value));
+    }
 }
 
 // ---- the register view
 
-// The first byte of register r is r, and no other 16 bytes are a register's.
+// Of each 8 bytes, a register of the smaller board, the first is their number.
 fn fill(file: &mut [u8]) {
     for k in 0..file.len() {
-        file[k] = ((k / 16 + k % 16 * 16) % 256) as u8;
+        file[k] = ((k / 8 + k % 8 * 32) % 256) as u8;
     }
 }
 
@@ -66,7 +83,7 @@ fn start_of(part: &[u8]) -> u64 {
     if part.len() == 0 {
         return 0;
     }
-    16 * wide(part[0])
+    8 * wide(part[0])
 }
 
 fn checksum(part: &[u8]) -> u64 {
@@ -88,16 +105,31 @@ fn print_part(answer: u64, start: u64, size: u64, part: &[u8]) {
     io::write_all(1, b"\n");
 }
 
-fn view_with(file: &[u8], first: usize, count: usize) {
+fn view_with(is_small: bool, file: &[u8], first: usize, count: usize) {
     let mut answer = 0u64;
-    let part = view::view_with(file, first, count, &mut answer);
+    let part = if is_small {
+        view::small_view_with(file, first, count, &mut answer)
+    } else {
+        view::view_with(file, first, count, &mut answer)
+    };
     print_part(answer, start_of(part), part.len() as u64, part);
 }
 
-fn view(file: &[u8], first: usize, count: usize) {
-    let place = view::place(file.len(), first, count);
+fn place(is_small: bool, bytes: usize, first: usize, count: usize) -> ViewPlace {
+    if is_small {
+        return view::small_place(bytes, first, count);
+    }
+    view::place(bytes, first, count)
+}
+
+fn view(is_small: bool, file: &[u8], first: usize, count: usize) {
+    let place = place(is_small, file.len(), first, count);
     let answer = place.answer;
-    let part = view::view(file, first, count);
+    let part = if is_small {
+        view::small_view(file, first, count)
+    } else {
+        view::view(file, first, count)
+    };
     print_part(
         answer::number(answer),
         place.start as u64,
@@ -113,12 +145,12 @@ fn capped(n: u64, room: usize) -> usize
     if n as usize <= room { n as usize } else { room }
 }
 
-fn views(line: &[u8], file: &[u8]) {
+fn views(is_small: bool, line: &[u8], file: &[u8]) {
     let n = capped(hexadecimal::number(line, 1, 16), file.len());
     let first = hexadecimal::number(line, 17, 16) as usize;
     let count = hexadecimal::number(line, 33, 16) as usize;
-    view_with(&file[..n], first, count);
-    view(&file[..n], first, count);
+    view_with(is_small, &file[..n], first, count);
+    view(is_small, &file[..n], first, count);
 }
 
 // ---- the whole
@@ -131,9 +163,12 @@ fn step(file: &[u8]) -> bool {
         return false;
     }
     match line[0] {
-        114 => read(&line),
-        119 => write(&line),
-        118 => views(&line, file),
+        114 => read(false, &line),
+        119 => write(false, &line),
+        118 => views(false, &line, file),
+        82 => read(true, &line),
+        87 => write(true, &line),
+        86 => views(true, &line, file),
         _ => return false,
     }
     true

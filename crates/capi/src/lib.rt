@@ -1,9 +1,10 @@
-// The calls with the C ABI. A slice crosses as a pointer and a length, the control record as an array of six numbers.
+// The calls with the C ABI, of each board: the first one is VLEN 128 and ELEN 64, the small one VLEN 64 and ELEN 32. A slice crosses as a
+// pointer and a length, the control record as an array of six numbers.
 ghost use mathlib.Core.Path.{_≡_};
 ghost use Prim.Native.Nat.{_≤_};
 ghost use lib.ListN.{length};
 ghost use Rattle.answer.specs.Answer.{numberOf};
-ghost use Rattle.control.specs.Board.{base};
+ghost use Rattle.control.specs.Board.{base, small};
 ghost use Rattle.control.specs.Control.{reset, fieldsOf, recordOf};
 ghost use Rattle.csr.specs.Csr.{readOf, writtenOf};
 ghost use Rattle.view.specs.View.{placeOf};
@@ -12,7 +13,8 @@ ghost use Rattle.machine.specs.Call.{given};
 ghost use Rattle.access_check.specs.AccessCheck.{accessCheckOf};
 ghost use Rattle.sheet.specs.Run.{printed, buffered};
 ghost use Rattle.sheet.specs.Bounds.{sheetBound};
-ghost use Rattle.capi.specs.Crossing.{Shows, Tells};
+ghost use Rattle.crossing.specs.Crossing.{Shows, Tells};
+use control::Board;
 use control::Control;
 
 // One turn of a word: the answer's number, and in the lent parts what the turn leaves.
@@ -39,25 +41,59 @@ pub extern "C" fn prashunde_turn(
         (now (scalars .exit)) (now (memory .exit)) (now (rights .entry)) (now (control .exit))
         ⌝ }
 {
-    let turned = turn::turn(
+    crossing::turn_on(
+        Board::base(),
         word,
         allowance,
         registers,
         scalars,
         memory,
         rights,
-        Control::of_fields(*control),
-    );
-    let answer = turned.answer;
-    let place = turned.place;
-    let wanted = place.wanted;
-    let after = turned.control;
-    *control = after.fields();
-    *passed = turned.passed;
-    *address = place.address;
-    *page = wanted.page;
-    *right = wanted.right as u64;
-    answer::number(answer)
+        control,
+        passed,
+        address,
+        page,
+        right,
+    )
+}
+
+#[no_mangle]
+pub extern "C" fn prashunde_small_turn(
+    word: u32,
+    allowance: u32,
+    registers: &mut [u8],
+    scalars: &mut [u64],
+    memory: &mut [u8],
+    rights: &[u8],
+    control: &mut [u64; 6],
+    passed: &mut u64,
+    address: &mut u64,
+    page: &mut u64,
+    right: &mut u64,
+) -> u64
+    ensures { λ r. ⌜
+        Shows
+        (turnOf small word allowance
+        (given (now (registers .entry)) (now (scalars .entry)) (now (memory .entry)) (now (rights .entry))
+        (recordOf (now (control .entry)))))
+        r (now (passed .exit)) (now (address .exit)) (now (page .exit)) (now (right .exit)) (now (registers .exit))
+        (now (scalars .exit)) (now (memory .exit)) (now (rights .entry)) (now (control .exit))
+        ⌝ }
+{
+    crossing::turn_on(
+        Board::small(),
+        word,
+        allowance,
+        registers,
+        scalars,
+        memory,
+        rights,
+        control,
+        passed,
+        address,
+        page,
+        right,
+    )
 }
 
 // What an uncut turn of a unit-stride access would answer: the answer's number, the element, the number of pages tested, and the page and
@@ -87,21 +123,59 @@ pub extern "C" fn prashunde_access_check(
         × ((now (memory .exit) ≡ now (memory .entry))
         × ((now (rights .exit) ≡ now (rights .entry)) × (now (control .exit) ≡ now (control .entry))))) ⌝ }
 {
-    let checked = access_check::check(
+    crossing::access_check_on(
+        Board::base(),
         word,
         registers,
         scalars,
         memory,
         rights,
-        Control::of_fields(*control),
-    );
-    let answer = checked.answer;
-    let wanted = checked.wanted;
-    *element = checked.element;
-    *pages = checked.pages;
-    *page = wanted.page;
-    *right = wanted.right as u64;
-    answer::number(answer)
+        control,
+        element,
+        pages,
+        page,
+        right,
+    )
+}
+
+#[no_mangle]
+pub extern "C" fn prashunde_small_access_check(
+    word: u32,
+    registers: &[u8],
+    scalars: &[u64],
+    memory: &[u8],
+    rights: &[u8],
+    control: &[u64; 6],
+    element: &mut u64,
+    pages: &mut u64,
+    page: &mut u64,
+    right: &mut u64,
+) -> u64
+    ensures { λ r. ⌜
+        Tells
+        (accessCheckOf small word
+        (given (now (registers .entry)) (now (scalars .entry)) (now (memory .entry)) (now (rights .entry))
+        (recordOf (now (control .entry)))))
+        r (now (element .exit)) (now (pages .exit)) (now (page .exit)) (now (right .exit)) ⌝ }
+    ensures { λ _. ⌜
+        (now (registers .exit) ≡ now (registers .entry))
+        × ((now (scalars .exit) ≡ now (scalars .entry))
+        × ((now (memory .exit) ≡ now (memory .entry))
+        × ((now (rights .exit) ≡ now (rights .entry)) × (now (control .exit) ≡ now (control .entry))))) ⌝ }
+{
+    crossing::access_check_on(
+        Board::small(),
+        word,
+        registers,
+        scalars,
+        memory,
+        rights,
+        control,
+        element,
+        pages,
+        page,
+        right,
+    )
 }
 
 // A CSR of the record; 0 beside any other answer than 0. The record is as before: a read sets no VS.
@@ -111,10 +185,16 @@ pub extern "C" fn prashunde_csr_read(csr: u64, control: &[u64; 6], value: &mut u
     ensures { λ _. ⌜ now (value .exit) ≡ readOf base (recordOf (now (control .entry))) csr .value ⌝ }
     ensures { λ _. ⌜ now (control .exit) ≡ now (control .entry) ⌝ }
 {
-    let read = csr::read(Control::of_fields(*control), csr);
-    let answer = read.answer;
-    *value = read.value;
-    answer::number(answer)
+    crossing::csr_read_on(Board::base(), csr, control, value)
+}
+
+#[no_mangle]
+pub extern "C" fn prashunde_small_csr_read(csr: u64, control: &[u64; 6], value: &mut u64) -> u64
+    ensures { λ r. ⌜ r ≡ numberOf (readOf small (recordOf (now (control .entry))) csr .answer) ⌝ }
+    ensures { λ _. ⌜ now (value .exit) ≡ readOf small (recordOf (now (control .entry))) csr .value ⌝ }
+    ensures { λ _. ⌜ now (control .exit) ≡ now (control .entry) ⌝ }
+{
+    crossing::csr_read_on(Board::small(), csr, control, value)
 }
 
 // The record after a write, through the write on a lent record; the same record beside any other answer than 0.
@@ -123,11 +203,15 @@ pub extern "C" fn prashunde_csr_write(csr: u64, value: u64, control: &mut [u64; 
     ensures { λ r. ⌜ r ≡ numberOf (writtenOf base (recordOf (now (control .entry))) csr value .answer) ⌝ }
     ensures { λ _. ⌜ now (control .exit) ≡ fieldsOf (writtenOf base (recordOf (now (control .entry))) csr value .control) ⌝ }
 {
-    let written = csr_field::written(Control::of_fields(*control), csr, value);
-    let answer = written.answer;
-    let after = written.control;
-    *control = after.fields();
-    answer::number(answer)
+    crossing::csr_write_on(Board::base(), csr, value, control)
+}
+
+#[no_mangle]
+pub extern "C" fn prashunde_small_csr_write(csr: u64, value: u64, control: &mut [u64; 6]) -> u64
+    ensures { λ r. ⌜ r ≡ numberOf (writtenOf small (recordOf (now (control .entry))) csr value .answer) ⌝ }
+    ensures { λ _. ⌜ now (control .exit) ≡ fieldsOf (writtenOf small (recordOf (now (control .entry))) csr value .control) ⌝ }
+{
+    crossing::csr_write_on(Board::small(), csr, value, control)
 }
 
 // Where a group of registers lies in the file: registers[start .. start + size]. Both are 0 beside any other answer than 0.
@@ -143,11 +227,22 @@ pub extern "C" fn prashunde_view(
     ensures { λ _. ⌜ now (start .exit) ≡ placeOf base (length (now (registers .entry))) first count .start ⌝ }
     ensures { λ _. ⌜ now (size .exit) ≡ placeOf base (length (now (registers .entry))) first count .size ⌝ }
 {
-    let place = view::place(registers.len(), first, count);
-    let answer = place.answer;
-    *start = place.start;
-    *size = place.size;
-    answer::number(answer)
+    crossing::view_on(Board::base(), registers, first, count, start, size)
+}
+
+#[no_mangle]
+pub extern "C" fn prashunde_small_view(
+    registers: &[u8],
+    first: usize,
+    count: usize,
+    start: &mut usize,
+    size: &mut usize,
+) -> u64
+    ensures { λ r. ⌜ r ≡ numberOf (placeOf small (length (now (registers .entry))) first count .answer) ⌝ }
+    ensures { λ _. ⌜ now (start .exit) ≡ placeOf small (length (now (registers .entry))) first count .start ⌝ }
+    ensures { λ _. ⌜ now (size .exit) ≡ placeOf small (length (now (registers .entry))) first count .size ⌝ }
+{
+    crossing::view_on(Board::small(), registers, first, count, start, size)
 }
 
 // The record after reset: vill, and VS Initial.

@@ -14,12 +14,15 @@ use mir.Val.{Fits}
 use Rattle.laws.proofs.Apart.{both-left, both-right, apart}
 use Rattle.control.specs.declared.Board.{Board}
 use Rattle.control.specs.declared.Control.{Control}
-use Rattle.control.specs.Board.{Valid, base}
+use Rattle.control.specs.Board.{Valid, base, small}
 use Rattle.control.specs.Vtype.{vill, lmul8Of, sewOf, vlmaxOf, supportedOf}
 use Rattle.control.specs.Control.{typedWellOf, possibleOf}
 
-pub base-valid : (b : Board) → b ≡ base → Valid b
-base-valid b e = rw e (record { lenb = 4; power = refl; some = lit≤ tt; most = lit≤ tt; elen = lit≤ tt; within = lit≤ tt })
+pub base-valid : Valid base
+base-valid = record { lenb = 4; power = refl; some = lit≤ tt; most = lit≤ tt; elen = lit≤ tt; within = lit≤ tt }
+
+pub small-valid : Valid small
+small-valid = record { lenb = 3; power = refl; some = lit≤ tt; most = lit≤ tt; elen = lit≤ tt; within = lit≤ tt }
 
 -- ---- tests taken apart
 cond-apart : (p q r : Bool) → cond p q r ≡ true → ((p ≡ true) × (q ≡ true)) ⊎ (r ≡ true)

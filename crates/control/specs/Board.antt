@@ -7,7 +7,11 @@ use Rattle.control.specs.declared.Board.{Board}
 abbrev pub base : Board
 base = record { vlenb = 16; elen = 64 }
 
--- for contracts of inner functions, and for boards other than `base`, which is one of them: the boards that the code is for. VLENB is a
+-- "boards with Zve32x and VLEN 64" (document 02, A11): ELEN 32
+abbrev pub small : Board
+small = record { vlenb = 8; elen = 32 }
+
+-- for contracts of inner functions, and for laws over every board: the boards that the code is for, `base` and `small` among them. VLENB is a
 -- power of 2 and at most 16, ELEN at most 64 and at most VLEN
 pub record Valid (b : Board) : Type 0 where
   pub lenb : ℕ

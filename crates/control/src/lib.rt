@@ -2,7 +2,7 @@
 ghost use mathlib.Core.Path.{_≡_};
 ghost use mathlib.Core.Bool.{cond};
 ghost use Prim.Native.Nat.{_-_, min};
-ghost use Rattle.control.specs.Board.{Valid, base};
+ghost use Rattle.control.specs.Board.{Valid, base, small};
 ghost use Rattle.control.specs.Vtype.{lmul8Of, sewOf, vlmaxOf, supportedOf};
 ghost use Rattle.control.specs.Control.{reset, withVtype, withVstart, withVxrm, withVxsat, withVs, dirtied, isOff};
 ghost use Rattle.control.specs.Control.{fieldsOf, recordOf, villOf, setTo, keepsOf, setOf, typedWellOf, possibleOf};
@@ -20,11 +20,20 @@ impl Board {
         elen: 64,
     };
 
-    // The same, for callers whose contracts name it.
+    // VLEN 64, ELEN 32.
+    pub const SMALL: Board = Board { vlenb: 8, elen: 32 };
+
+    // The same, for callers whose contracts name them.
     pub fn base() -> Board
-        ensures { λ r. ⌜ r ≡ base ⌝ }
+        ensures { λ r. ⌜ (r ≡ base) × Valid r ⌝ }
     {
         Board::BASE
+    }
+
+    pub fn small() -> Board
+        ensures { λ r. ⌜ (r ≡ small) × Valid r ⌝ }
+    {
+        Board::SMALL
     }
 }
 

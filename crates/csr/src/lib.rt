@@ -1,6 +1,6 @@
 // Reads and writes of the control record by CSR number (document 01, 'Control panel'): the record goes in and comes back by value.
 ghost use mathlib.Core.Path.{_≡_};
-ghost use Rattle.control.specs.Board.{Valid, base};
+ghost use Rattle.control.specs.Board.{Valid, base, small};
 ghost use Rattle.csr.specs.Csr.{readOf, writtenOf};
 use answer::Answer;
 use control::Board;
@@ -101,16 +101,28 @@ pub fn write_on(board: Board, control: Control, csr: u64, value: u64) -> CsrWrit
     }
 }
 
-// A read on the board of document 01.
+// ---- the calls of each board
+
 pub fn read(control: Control, csr: u64) -> CsrRead
     ensures { λ r. ⌜ r ≡ readOf base control csr ⌝ }
 {
     read_on(Board::base(), control, csr)
 }
 
-// A write on the board of document 01.
+pub fn small_read(control: Control, csr: u64) -> CsrRead
+    ensures { λ r. ⌜ r ≡ readOf small control csr ⌝ }
+{
+    read_on(Board::small(), control, csr)
+}
+
 pub fn write(control: Control, csr: u64, value: u64) -> CsrWrite
     ensures { λ r. ⌜ r ≡ writtenOf base control csr value ⌝ }
 {
     write_on(Board::base(), control, csr, value)
+}
+
+pub fn small_write(control: Control, csr: u64, value: u64) -> CsrWrite
+    ensures { λ r. ⌜ r ≡ writtenOf small control csr value ⌝ }
+{
+    write_on(Board::small(), control, csr, value)
 }

@@ -3,3 +3,4 @@ pub mod Arms
 pub mod Spelled
 pub mod Walks
 pub mod Lending
+pub mod BoardWrite

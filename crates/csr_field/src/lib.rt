@@ -1,6 +1,6 @@
 // The write by CSR number on a lent control record: the written field and VS are changed in it, no other.
 ghost use mathlib.Core.Path.{_≡_};
-ghost use Rattle.control.specs.Board.{Valid, base};
+ghost use Rattle.control.specs.Board.{Valid, base, small};
 ghost use Rattle.csr.specs.Csr.{writtenOf};
 ghost use Rattle.csr_field.specs.Change.{after, changeOf};
 use answer::Answer;
@@ -99,7 +99,8 @@ pub fn written_on(board: Board, control: Control, csr: u64, value: u64) -> CsrWr
     }
 }
 
-// The write on the board of document 01.
+// ---- the calls of each board
+
 pub fn write(control: &mut Control, csr: u64, value: u64) -> Answer
     ensures { λ r. ⌜
         (r ≡ writtenOf base (now (control .entry)) csr value .answer)
@@ -109,9 +110,24 @@ pub fn write(control: &mut Control, csr: u64, value: u64) -> Answer
     write_on(Board::base(), control, csr, value)
 }
 
+pub fn small_write(control: &mut Control, csr: u64, value: u64) -> Answer
+    ensures { λ r. ⌜
+        (r ≡ writtenOf small (now (control .entry)) csr value .answer)
+        × (now (control .exit) ≡ writtenOf small (now (control .entry)) csr value .control)
+        ⌝ }
+{
+    write_on(Board::small(), control, csr, value)
+}
+
 // The same for a caller that has the record by value.
 pub fn written(control: Control, csr: u64, value: u64) -> CsrWrite
     ensures { λ r. ⌜ r ≡ writtenOf base control csr value ⌝ }
 {
     written_on(Board::base(), control, csr, value)
+}
+
+pub fn small_written(control: Control, csr: u64, value: u64) -> CsrWrite
+    ensures { λ r. ⌜ r ≡ writtenOf small control csr value ⌝ }
+{
+    written_on(Board::small(), control, csr, value)
 }

@@ -4,3 +4,4 @@ pub mod SegmentCases
 pub mod ReductionCases
 pub mod PermutationCases
 pub mod TrapCases
+pub mod Boards

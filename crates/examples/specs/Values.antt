@@ -1,11 +1,12 @@
 -- The worked values of document 01, 'Values on both sides', over the definitions that the calls promise.
-use Prim.Native.Nat.{ℕ, zero, suc, _+_, _-_, _^_}
+use Prim.Native.Nat.{ℕ, zero, suc, _+_, _-_, _*_, _^_}
 use mathlib.Core.Path.{_≡_}
 use mathlib.Core.List.{List, [], _∷_, map}
 use lib.ListN.{replicate}
 use Rattle.answer.specs.declared.Answer.{Answer}
 use Rattle.answer.specs.declared.Answer.the-variants.{Finished, Illegal}
 use Rattle.width.specs.Width.{flag}
+use Rattle.control.specs.declared.Board.{Board}
 use Rattle.control.specs.Board.{base}
 use Rattle.control.specs.declared.Avl.the-variants.{To}
 use Rattle.control.specs.Vtype.{vill, vlmaxOf, supportedOf}
@@ -32,20 +33,23 @@ at8 op vs2 vs1 rm = elementOf 8 rm vs2 vs1 0 0 op
 abbrev pub modes : (Vxrm → Element) → List Element
 modes f = f Rnu ∷ f Rne ∷ f Rdn ∷ f Rod ∷ []
 
--- how many of 0 .. n − 1 are supported
-abbrev pub supportedBelow : ℕ → ℕ
-supportedBelow zero = 0
-supportedBelow (suc n) = flag (supportedOf base n) + supportedBelow n
+-- how many of 0 .. n − 1 are supported on a board
+abbrev pub supportedBelow : Board → ℕ → ℕ
+supportedBelow b zero = 0
+supportedBelow b (suc n) = flag (supportedOf b n) + supportedBelow b n
 
--- a vtype, vl and vstart; registers and scalars 0, no memory, every page closed
-abbrev pub blankAt : ℕ → ℕ → ℕ → State
-blankAt vtype vl vstart = record {
-  registers = replicate 512 0;
+-- a vtype, vl and vstart on a board; registers and scalars 0, no memory, every page closed
+abbrev pub blankOn : Board → ℕ → ℕ → ℕ → State
+blankOn b vtype vl vstart = record {
+  registers = replicate (32 * b .vlenb) 0;
   scalars = replicate 32 0;
   memory = [];
   rights = replicate 256 0;
   control = withVstart (withVtype reset vtype vl) vstart;
 }
+
+abbrev pub blankAt : ℕ → ℕ → ℕ → State
+blankAt = blankOn base
 
 -- e64 at LMUL 1 with vl 2, at a vstart
 abbrev pub e64At : ℕ → State
@@ -82,7 +86,7 @@ pub record Values : Type 0 where
   -- e64 vadd: vstart 15 with vl 2 finishes; 16 is illegal
   pub P10 : map addedAt (15 ∷ 16 ∷ []) ≡ (Finished ∷ Illegal ∷ [])
   -- 'Setting the vector type': "That is 88 values"
-  pub supported : supportedBelow 256 ≡ 88
+  pub supported : supportedBelow base 256 ≡ 88
 
 -- vl after vsetvli x12, x10, e32, m1, where vl is 2 and x10 is 0: a machine that changes nothing leaves 2
 abbrev pub Changes : Type 0

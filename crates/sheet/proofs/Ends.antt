@@ -95,7 +95,7 @@ Suffices n p = numberOf (p .answer) ≡ 1 → (1 ≤ n) × (mostTurns ≤ p .sta
 module _ (word allow : ℕ) (l : 1 ≤ allow) where
   one-less : (n : ℕ) (p : Progress) → mostTurns ≤ p .state .control .vstart + suc n → Suffices n (joined p (turned word allow (p .state)))
   one-less n p h e =
-      let m = pause-moves base word allow (p .state) (base-valid base refl) l (paused-is _ e) in
+      let m = pause-moves base word allow (p .state) base-valid l (paused-is _ e) in
       (omega (arith, m .0), omega (arith, m .1))
 
   turns-end : (n : ℕ) (p : Progress) → Suffices n p → isPaused (moreTurns n word allow p .answer) ≡ false

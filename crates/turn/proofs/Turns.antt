@@ -13,7 +13,7 @@ use Rattle.answer.specs.declared.Verdict.{Verdict}
 use Rattle.answer.specs.declared.Verdict.the-variants.{Accepted, Refused}
 use Rattle.control.specs.declared.Board.{Board}
 use Rattle.control.specs.declared.Control.{Control}
-use Rattle.control.specs.Board.{Valid, base}
+use Rattle.control.specs.Board.{Valid}
 use Rattle.control.specs.Control.{withVstart, dirtied, isOff}
 use Rattle.control.specs.Vtype.{sewOf}
 use Rattle.control.proofs.Laws.{Possible, possible-apart, typed-well-apart, supported-sew-le}
@@ -176,5 +176,6 @@ module _ (b : Board) (word : ℕ) (file x memory rights : List ℕ) (c : Control
         → o ≡ turnOf b word n before
     elements-word n e o f = planned-turn n (P.Elements e) o (elements-planned b x c d p u e f .0)
 
-pub on-base : (b : Board) (word n : ℕ) (s : State) (o : Outcome) → b ≡ base → o ≡ turnOf b word n s → o ≡ turnOf base word n s
-on-base b word n s o e h = rw (← e) h
+-- ---- the turn on a board b is that on the board that a promise names, where b is that board
+pub turned-by : (b named : Board) (word n : ℕ) (s : State) (o : Outcome) → b ≡ named → o ≡ turnOf b word n s → o ≡ turnOf named word n s
+turned-by b named word n s o e h = rw (← e) h

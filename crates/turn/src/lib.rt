@@ -1,7 +1,7 @@
 // One turn of any word on any state.
 ghost use mathlib.Core.Path.{_≡_};
 ghost use Rattle.answer.specs.declared.Answer.the-variants.{Finished};
-ghost use Rattle.control.specs.Board.{Valid, base};
+ghost use Rattle.control.specs.Board.{Valid, base, small};
 ghost use Rattle.control.specs.Control.{dirtied};
 ghost use Rattle.access.specs.Access.{nowhere};
 ghost use Rattle.machine.specs.Call.{given, left};
@@ -35,7 +35,7 @@ fn finished(control: Control) -> Turned
 }
 
 // Every word, on a board: refusals 32 to 36, then 2, then what its plan says.
-fn turn_on(
+pub fn turn_on(
     board: Board,
     word: u32,
     allowance: u32,
@@ -95,6 +95,33 @@ pub fn turn(
 {
     turn_on(
         Board::base(),
+        word,
+        allowance,
+        registers,
+        scalars,
+        memory,
+        rights,
+        control,
+    )
+}
+
+// The same on the smaller board.
+pub fn small_turn(
+    word: u32,
+    allowance: u32,
+    registers: &mut [u8],
+    scalars: &mut [u64],
+    memory: &mut [u8],
+    rights: &[u8],
+    control: Control,
+) -> Turned
+    ensures { λ r. ⌜
+        left r (now (registers .exit)) (now (scalars .exit)) (now (memory .exit)) (now (rights .entry))
+        ≡ turnOf small word allowance
+        (given (now (registers .entry)) (now (scalars .entry)) (now (memory .entry)) (now (rights .entry)) control) ⌝ }
+{
+    turn_on(
+        Board::small(),
         word,
         allowance,
         registers,

@@ -1,8 +1,9 @@
 // Runs instruction vectors through the public calls. Standard input has records of lines: 'c' a case (word, allowance, the fields of the
-// control record, and the lengths of the register file, the scalars, memory and the rights), 'x' a scalar, 'v' bytes of a register, 'p' the
-// right of a range of pages, and then '.', upon which the turn is taken, or '?', upon which the access check is made. Of a turn it writes
-// the answer, the number passed, the fault address, the page and the right that were wanted, the control record after, and every byte or
-// scalar that has changed; of a check the answer, the element, the number of pages, and the page and the right.
+// control record, and the lengths of the register file, the scalars, memory and the rights), 'x' a scalar, 'v' bytes of the register file
+// from a multiple of 8 on, 'p' the right of a range of pages, and then '.', upon which the turn is taken, or '?', upon which the access check
+// is made; on the smaller board ',' and '!'. Of a turn it writes the answer, the number passed, the fault address, the page and the right
+// that were wanted, the control record after, and every byte or scalar that has changed; of a check the answer, the element, the number of
+// pages, and the page and the right.
 ghost use Prim.Native.Nat.{_≤_};
 use access::Wanted;
 use control::Control;
@@ -101,7 +102,7 @@ fn set_scalar(scalars: &mut [u64], line: &[u8]) {
 }
 
 fn set_register(registers: &mut [u8], line: &[u8]) {
-    let first = 16 * hexadecimal::number(line, 0, 2) as usize;
+    let first = 8 * hexadecimal::number(line, 0, 2) as usize;
     let n = hexadecimal::number(line, 2, 2) as u32;
     for k in 0..n {
         let byte = hexadecimal::number(line, 4 + 2 * k, 2) as u8;
@@ -249,15 +250,43 @@ fn print_checked(checked: Checked) {
     io::write_all(1, b"\n");
 }
 
-fn take_check(head: &[u8], registers: &[u8], scalars: &[u64], memory: &[u8], rights: &[u8]) {
-    let word = hexadecimal::number(head, 0, 8) as u32;
-    let control = case_lines::control_at(head, 16);
-    print_checked(access_check::check(word, registers, scalars, memory, rights, control));
+// The check of a case on its board.
+fn checked(
+    is_small: bool,
+    word: u32,
+    registers: &[u8],
+    scalars: &[u64],
+    memory: &[u8],
+    rights: &[u8],
+    control: Control,
+) -> Checked {
+    if is_small {
+        return access_check::small_check(word, registers, scalars, memory, rights, control);
+    }
+    access_check::check(word, registers, scalars, memory, rights, control)
+}
+
+// The turn of a case on its board.
+fn turned(
+    is_small: bool,
+    word: u32,
+    allowance: u32,
+    registers: &mut [u8],
+    scalars: &mut [u64],
+    memory: &mut [u8],
+    rights: &[u8],
+    control: Control,
+) -> Turned {
+    if is_small {
+        return turn::small_turn(word, allowance, registers, scalars, memory, rights, control);
+    }
+    turn::turn(word, allowance, registers, scalars, memory, rights, control)
 }
 
 // The turn, and what it changed; or the check.
 fn take(
     is_check: bool,
+    is_small: bool,
     head: &[u8],
     registers: &mut [u8],
     scalars: &mut [u64],
@@ -265,16 +294,25 @@ fn take(
     rights: &[u8],
     memory_before: &[u8],
 ) {
-    if is_check {
-        take_check(head, registers, scalars, memory, rights);
-        return;
-    }
     let word = hexadecimal::number(head, 0, 8) as u32;
     let allowance = hexadecimal::number(head, 8, 8) as u32;
     let control = case_lines::control_at(head, 16);
+    if is_check {
+        print_checked(checked(is_small, word, registers, scalars, memory, rights, control));
+        return;
+    }
     let registers_before = copy_of_registers(registers);
     let scalars_before = copy_of_scalars(scalars);
-    print_turned(turn::turn(word, allowance, registers, scalars, memory, rights, control));
+    print_turned(turned(
+        is_small,
+        word,
+        allowance,
+        registers,
+        scalars,
+        memory,
+        rights,
+        control,
+    ));
     print_bytes(b" v", registers, &registers_before);
     print_scalars(scalars, &scalars_before);
     print_bytes(b" m", memory, memory_before);
@@ -291,6 +329,7 @@ fn capped(n: u64, room: usize) -> usize
 // The turn or the check of a case, on the lengths that its first line says.
 fn finish(
     is_check: bool,
+    is_small: bool,
     head: &[u8],
     registers: &mut [u8],
     scalars: &mut [u64],
@@ -304,6 +343,7 @@ fn finish(
     let of_rights = capped(hexadecimal::number(head, 136, 8), rights.len());
     take(
         is_check,
+        is_small,
         head,
         &mut registers[..of_registers],
         &mut scalars[..of_scalars],
@@ -352,10 +392,11 @@ fn step(
         120 => read_scalar(scalars),
         118 => read_register(registers),
         112 => read_rights(rights),
-        46 | 63 => {
+        46 | 63 | 44 | 33 => {
             read_end();
             finish(
-                kind == 63,
+                (kind == 63) | (kind == 33),
+                (kind == 44) | (kind == 33),
                 head,
                 registers,
                 scalars,

@@ -10,9 +10,10 @@ use lib.Dec.{eqb, lit≤}
 use lib.ListN.{length, length-drop}
 use lib.Seq.{length-take-le}
 use Rattle.laws.proofs.Apart.{apart}
+use Rattle.answer.specs.Answer.{numberOf}
 use Rattle.control.specs.declared.Board.{Board}
 use Rattle.view.specs.declared.ViewPlace.{ViewPlace}
-use Rattle.view.specs.View.{isGroupOf, placeOf, partOf}
+use Rattle.view.specs.View.{isGroupOf, placeOf, partOf, pointAt}
 
 either : {P : Type 0} (p q : Bool) → (p || q) ≡ true → (p ≡ true → P) → (q ≡ true → P) → P
 either true q e f g = f refl
@@ -57,3 +58,18 @@ part-end b bytes f n p e =
 
 pub part-length : (b : Board) (l : List ℕ) (f n : ℕ) → length (partOf b l f n) ≡ placeOf b (length l) f n .size
 part-length b l f n = length-take-le _ _ (rw (length-drop _ l) (omega (arith, part-end b (length l) f n _ refl)))
+
+-- ---- what is on a board b is on the board that a promise names, where b is that board
+module _ (b named : Board) (e : b ≡ named) (f n : ℕ) where
+  pub place-by : (bytes : ℕ) (p : ViewPlace) → p ≡ placeOf b bytes f n → p ≡ placeOf named bytes f n
+  place-by bytes p h = rw (← e) h
+
+  pub part-by : (l part : List ℕ) → part ≡ partOf b l f n → part ≡ partOf named l f n
+  part-by l part h = rw (← e) h
+
+  pub number-by : (bytes x : ℕ) → x ≡ numberOf (placeOf b bytes f n .answer) → x ≡ numberOf (placeOf named bytes f n .answer)
+  number-by bytes x h = rw (← e) h
+
+  pub point-by : (bytes : ℕ) (file p : ℕ × ℕ) → p ≡ pointAt file (placeOf b bytes f n .start)
+      → p ≡ pointAt file (placeOf named bytes f n .start)
+  point-by bytes file p h = rw (← e) h

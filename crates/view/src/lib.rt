@@ -3,7 +3,7 @@ ghost use mathlib.Core.Path.{_≡_};
 ghost use lib.ListN.{length};
 ghost use denote.Ref.{ptr};
 ghost use Rattle.answer.specs.Answer.{numberOf};
-ghost use Rattle.control.specs.Board.{Valid, base};
+ghost use Rattle.control.specs.Board.{Valid, base, small};
 ghost use Rattle.view.specs.View.{isGroupOf, noPart, placeOf, partOf, pointAt};
 use answer::Answer;
 use control::Board;
@@ -57,22 +57,22 @@ pub fn place_on(board: Board, bytes: usize, first: usize, count: usize) -> ViewP
     }
 }
 
-// The place of a group on the board of document 01.
-pub fn place(bytes: usize, first: usize, count: usize) -> ViewPlace
-    ensures { λ r. ⌜ r ≡ placeOf base bytes first count ⌝ }
-{
-    place_on(Board::base(), bytes, first, count)
-}
-
 // The bytes of the group, or an empty part; the answer's number beside it.
-pub fn view_with<'a>(registers: &'a [u8], first: usize, count: usize, answer: &mut u64) -> &'a [u8]
+pub fn view_with_on<'a>(
+    board: Board,
+    registers: &'a [u8],
+    first: usize,
+    count: usize,
+    answer: &mut u64,
+) -> &'a [u8]
+    requires { ⌜ Valid board ⌝ }
     ensures { λ r. ⌜
-        (now r ≡ partOf base (now (registers .entry)) first count)
-        × ((now (answer .exit) ≡ numberOf (placeOf base (length (now (registers .entry))) first count .answer))
-        × (ptr r ≡ pointAt (ptr (registers .entry)) (placeOf base (length (now (registers .entry))) first count .start)))
+        (now r ≡ partOf board (now (registers .entry)) first count)
+        × ((now (answer .exit) ≡ numberOf (placeOf board (length (now (registers .entry))) first count .answer))
+        × (ptr r ≡ pointAt (ptr (registers .entry)) (placeOf board (length (now (registers .entry))) first count .start)))
         ⌝ }
 {
-    let found = place(registers.len(), first, count);
+    let found = place_on(board, registers.len(), first, count);
     let found_answer = found.answer;
     *answer = answer::number(found_answer);
     let start = found.start;
@@ -81,12 +81,70 @@ pub fn view_with<'a>(registers: &'a [u8], first: usize, count: usize, answer: &m
 }
 
 // The same without the answer.
+pub fn view_on(board: Board, registers: &[u8], first: usize, count: usize) -> &[u8]
+    requires { ⌜ Valid board ⌝ }
+    ensures { λ r. ⌜
+        (now r ≡ partOf board (now (registers .entry)) first count)
+        × (ptr r ≡ pointAt (ptr (registers .entry)) (placeOf board (length (now (registers .entry))) first count .start))
+        ⌝ }
+{
+    let mut answer = 0u64;
+    view_with_on(board, registers, first, count, &mut answer)
+}
+
+// ---- the calls of each board
+
+pub fn place(bytes: usize, first: usize, count: usize) -> ViewPlace
+    ensures { λ r. ⌜ r ≡ placeOf base bytes first count ⌝ }
+{
+    place_on(Board::base(), bytes, first, count)
+}
+
+pub fn small_place(bytes: usize, first: usize, count: usize) -> ViewPlace
+    ensures { λ r. ⌜ r ≡ placeOf small bytes first count ⌝ }
+{
+    place_on(Board::small(), bytes, first, count)
+}
+
+pub fn view_with<'a>(registers: &'a [u8], first: usize, count: usize, answer: &mut u64) -> &'a [u8]
+    ensures { λ r. ⌜
+        (now r ≡ partOf base (now (registers .entry)) first count)
+        × ((now (answer .exit) ≡ numberOf (placeOf base (length (now (registers .entry))) first count .answer))
+        × (ptr r ≡ pointAt (ptr (registers .entry)) (placeOf base (length (now (registers .entry))) first count .start)))
+        ⌝ }
+{
+    view_with_on(Board::base(), registers, first, count, answer)
+}
+
+pub fn small_view_with<'a>(
+    registers: &'a [u8],
+    first: usize,
+    count: usize,
+    answer: &mut u64,
+) -> &'a [u8]
+    ensures { λ r. ⌜
+        (now r ≡ partOf small (now (registers .entry)) first count)
+        × ((now (answer .exit) ≡ numberOf (placeOf small (length (now (registers .entry))) first count .answer))
+        × (ptr r ≡ pointAt (ptr (registers .entry)) (placeOf small (length (now (registers .entry))) first count .start)))
+        ⌝ }
+{
+    view_with_on(Board::small(), registers, first, count, answer)
+}
+
 pub fn view(registers: &[u8], first: usize, count: usize) -> &[u8]
     ensures { λ r. ⌜
         (now r ≡ partOf base (now (registers .entry)) first count)
         × (ptr r ≡ pointAt (ptr (registers .entry)) (placeOf base (length (now (registers .entry))) first count .start))
         ⌝ }
 {
-    let mut answer = 0u64;
-    view_with(registers, first, count, &mut answer)
+    view_on(Board::base(), registers, first, count)
+}
+
+pub fn small_view(registers: &[u8], first: usize, count: usize) -> &[u8]
+    ensures { λ r. ⌜
+        (now r ≡ partOf small (now (registers .entry)) first count)
+        × (ptr r ≡ pointAt (ptr (registers .entry)) (placeOf small (length (now (registers .entry))) first count .start))
+        ⌝ }
+{
+    view_on(Board::small(), registers, first, count)
 }

@@ -1,8 +1,7 @@
 use borrow.Author.Needs.{needs}
-use Rattle.control.proofs.Laws.{base-valid}
-use Rattle.access_check.proofs.WordLaws.{on-base}
+use Rattle.access_check.proofs.WordLaws.{checked-by}
 use Rattle.access_check.proofs.check.Statement.{statement}
 use Rattle.access_check.proofs.check.Tie as tie
 
 pub check-spec : {M : Type 1} → statement M
-check-spec = tie.close (tie.spec (λ c κs. search needs) (λ c κs. search base-valid) (λ c. search on-base))
+check-spec = tie.close (tie.spec (λ c κs. search needs) (λ c κs. search needs) (λ c. search checked-by))

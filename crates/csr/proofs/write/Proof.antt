@@ -1,7 +1,7 @@
 use borrow.Author.Needs.{needs}
-use Rattle.control.proofs.Laws.{base-valid}
+use Rattle.csr.proofs.Instances.{written-by}
 use Rattle.csr.proofs.write.Statement.{statement}
 use Rattle.csr.proofs.write.Tie as tie
 
 pub write-spec : {M : Type 1} → statement M
-write-spec = tie.close (tie.spec (λ c κs. search needs) (λ c κs. search base-valid) (λ c. cc))
+write-spec = tie.close (tie.spec (λ c κs. search needs) (λ c κs. search needs) (λ c. search written-by))

@@ -1,6 +1,5 @@
 use borrow.Author.Needs.{needs}
-use Rattle.control.proofs.Laws.{base-valid}
-use Rattle.turn.proofs.Turns.{on-base}
+use Rattle.turn.proofs.Turns.{turned-by}
 use Rattle.turn.proofs.turn.Statement.{statement}
 use Rattle.turn.proofs.turn.Tie as tie
 
@@ -9,8 +8,8 @@ turn-spec =
     tie.close
     (tie.spec
     (λ c κs. search needs)
-    (λ c κs. search base-valid)
+    (λ c κs. search needs)
     (λ c. search needs)
     (λ c. search needs)
     (λ c. search needs)
-    (λ c. search on-base))
+    (λ c. search turned-by))

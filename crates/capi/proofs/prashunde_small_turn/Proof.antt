@@ -1,0 +1,15 @@
+use borrow.Author.Needs.{needs}
+use Rattle.capi.proofs.Instances.{shown-by}
+use Rattle.capi.proofs.prashunde_small_turn.Statement.{statement}
+use Rattle.capi.proofs.prashunde_small_turn.Tie as tie
+
+pub prashunde-small-turn-spec : {M : Type 1} → statement M
+prashunde-small-turn-spec =
+    tie.close
+    (tie.spec
+    (λ c κs. search needs)
+    (λ c κs. search needs)
+    (λ c. search needs)
+    (λ c. search needs)
+    (λ c. search needs)
+    (λ c. search shown-by))
