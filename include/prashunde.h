@@ -1,11 +1,13 @@
 /*
- * Prashunde: a RISC-V vector machine for the classroom (RV64, VLEN 128, ELEN 64; integer and fixed-point instructions).
+ * Prashunde: a RISC-V vector machine for the classroom (RV64; integer and fixed-point instructions), on two boards: the first one has VLEN
+ * 128 and ELEN 64, the smaller one VLEN 64 and ELEN 32 (Zve32x). The calls of the smaller board are those whose names begin with
+ * prashunde_small_.
  *
  * `rt staticlib capi` writes the library, target/staticlib/libcapi.a, for x86-64 Linux. It needs no other library, has no state of its own,
  * allocates nothing, and each call returns. Calls on different parts may run at the same time on different threads.
  *
  * THE PARTS that a caller lends:
- *   registers   512 bytes: vector register vN begins at byte 16 * N, lowest byte first
+ *   registers   512 bytes: vector register vN begins at byte 16 * N, lowest byte first. On the smaller board 256 bytes, 8 * N
  *   scalars     32 numbers: x0 to x31. x0 reads 0, and its slot is never written
  *   memory      0 to 65536 bytes, from address 0
  *   rights      256 bytes, one for each page of 256 bytes: 0 closed, 1 read, 2 read and write
@@ -36,12 +38,12 @@ enum {
     PRASHUNDE_LOAD_ACCESS = 5,      /* past memory, or the page may not be read; an aligned element lies on one page */
     PRASHUNDE_STORE_MISALIGNED = 6,
     PRASHUNDE_STORE_ACCESS = 7,     /* past memory, or the page may not be written */
-    PRASHUNDE_BAD_REGISTERS = 32,   /* 32 to 36, in this order: nothing is changed. registers_len is not 512 */
+    PRASHUNDE_BAD_REGISTERS = 32,   /* 32 to 36, in this order: nothing is changed. registers_len is not 512 (smaller board: 256) */
     PRASHUNDE_BAD_SCALARS = 33,     /* scalars_len is not 32 */
     PRASHUNDE_BAD_MEMORY = 34,      /* memory_len is over 65536 */
     PRASHUNDE_BAD_RIGHTS = 35,      /* rights_len is not 256, or a right is above 2 */
-    PRASHUNDE_BAD_CONTROL = 36,     /* control fields that cannot be; vs above 3 is one */
-    PRASHUNDE_NO_GROUP = 38         /* no such register group (prashunde_view alone) */
+    PRASHUNDE_BAD_CONTROL = 36,     /* control fields that cannot be; vs above 3 is one, vstart above 127, on the smaller board above 63 */
+    PRASHUNDE_NO_GROUP = 38         /* no such register group (prashunde_view and prashunde_small_view alone) */
 };
 
 /*
@@ -111,15 +113,40 @@ uint64_t prashunde_csr_write(uint64_t csr, uint64_t value, uint64_t control[6]);
  */
 uint64_t prashunde_view(const uint8_t *registers, size_t registers_len, size_t first, size_t count, size_t *start, size_t *size);
 
-/* Sets control to its state at reset: vtype is 2^63 (vill), vs is 1 (Initial), all others 0. */
+/* Sets control to its state at reset, on either board: vtype is 2^63 (vill), vs is 1 (Initial), all others 0. */
 void prashunde_reset(uint64_t control[6]);
+
+/*
+ * The same five calls on the smaller board, VLEN 64 and ELEN 32: parameters and answers as those of the first board's. registers_len is
+ * 256, and vN begins at byte 8 * N. SEW is 8, 16 or 32 and LMUL from 1/4 up, SEW at most 32 * LMUL where that is below 1; any other vtype
+ * but 2^63 is 36. EEW 64 is 2 everywhere: of a load or a store, of its indices, of a whole-register load. vmulh, vmulhu, vmulhsu and vsmul
+ * are there at each SEW. vstart is at most 63 (else 36), a write to it keeps 6 bits, and 512 / SEW or more is 2, where on the first board
+ * that is 1024 / SEW. 0xC22 vlenb reads 8. Scalars, addresses and offsets have 64 bits as there.
+ */
+uint64_t prashunde_small_turn(uint32_t word, uint32_t allowance,
+                              uint8_t *registers, size_t registers_len,
+                              uint64_t *scalars, size_t scalars_len,
+                              uint8_t *memory, size_t memory_len,
+                              const uint8_t *rights, size_t rights_len,
+                              uint64_t control[6], uint64_t *passed, uint64_t *address,
+                              uint64_t *page, uint64_t *right);
+uint64_t prashunde_small_access_check(uint32_t word,
+                                      const uint8_t *registers, size_t registers_len,
+                                      const uint64_t *scalars, size_t scalars_len,
+                                      const uint8_t *memory, size_t memory_len,
+                                      const uint8_t *rights, size_t rights_len,
+                                      const uint64_t control[6], uint64_t *element, uint64_t *pages,
+                                      uint64_t *page, uint64_t *right);
+uint64_t prashunde_small_csr_read(uint64_t csr, const uint64_t control[6], uint64_t *value);
+uint64_t prashunde_small_csr_write(uint64_t csr, uint64_t value, uint64_t control[6]);
+uint64_t prashunde_small_view(const uint8_t *registers, size_t registers_len, size_t first, size_t count, size_t *start, size_t *size);
 
 /* The greatest length of what a sheet prints: a buffer of this length is long enough for every sheet. */
 #define PRASHUNDE_SHEET_MAX 1660000
 
 /*
- * Runs a sheet on a machine of its own, as the program sheet_main does. Any bytes will do: a bad sheet prints sheet=bad and its first bad
- * line. Sheet and buffer do not overlap.
+ * Runs a sheet on a machine of its own, with the first board, as the program sheet_main does. Any bytes will do: a bad sheet prints
+ * sheet=bad and its first bad line. Sheet and buffer do not overlap.
  *   out   gets the text, with no NUL after it, where out_len is at least its length. A shorter buffer is left as it was, and so are the
  *         bytes behind the text
  * Returns the length of the text, also where it does not fit. To ask for the length alone, give an out_len of 0 and a pointer that is

@@ -1,18 +1,36 @@
 /* A load in three turns: a closed page stops it, as the access check says before, then an allowance of 3 pauses it; a load of segments in
- * two; and one that is not aligned. Then the other calls, what VS does, and a sheet. bindings/rust/examples/turns.rs prints the same. */
+ * two; and one that is not aligned. Then the other calls, what VS does, a load on the smaller board, and a sheet.
+ * bindings/rust/examples/turns.rs prints the same. */
 #include "prashunde.h"
 #include <inttypes.h>
 #include <stdio.h>
 #include <string.h>
 
+/* A board: the bytes of its registers, and its calls. */
+struct board {
+    size_t bytes;
+    uint64_t (*turn)(uint32_t, uint32_t, uint8_t *, size_t, uint64_t *, size_t, uint8_t *, size_t, const uint8_t *, size_t, uint64_t[6],
+                     uint64_t *, uint64_t *, uint64_t *, uint64_t *);
+    uint64_t (*check)(uint32_t, const uint8_t *, size_t, const uint64_t *, size_t, const uint8_t *, size_t, const uint8_t *, size_t,
+                      const uint64_t[6], uint64_t *, uint64_t *, uint64_t *, uint64_t *);
+    uint64_t (*csr_read)(uint64_t, const uint64_t[6], uint64_t *);
+    uint64_t (*csr_write)(uint64_t, uint64_t, uint64_t[6]);
+    uint64_t (*view)(const uint8_t *, size_t, size_t, size_t, size_t *, size_t *);
+};
+
+static const struct board first = {512, prashunde_turn, prashunde_access_check, prashunde_csr_read, prashunde_csr_write, prashunde_view};
+static const struct board small = {256, prashunde_small_turn, prashunde_small_access_check, prashunde_small_csr_read,
+                                   prashunde_small_csr_write, prashunde_small_view};
+
+static struct board board;
 static uint8_t registers[512], memory[4096], rights[256];
 static uint64_t scalars[32], control[6];
 
 static void turn(const char *name, uint32_t word, uint32_t allowance)
 {
     uint64_t passed, address, page, right;
-    uint64_t answer = prashunde_turn(word, allowance, registers, sizeof registers, scalars, 32, memory, sizeof memory,
-                                     rights, sizeof rights, control, &passed, &address, &page, &right);
+    uint64_t answer = board.turn(word, allowance, registers, board.bytes, scalars, 32, memory, sizeof memory, rights, sizeof rights,
+                                 control, &passed, &address, &page, &right);
     printf("%s: answer %" PRIu64 ", passed %" PRIu64 ", address %" PRIu64, name, answer, passed, address);
     printf(", page %" PRIu64 ", right %" PRIu64 ", control %" PRIx64, page, right, control[0]);
     for (size_t i = 1; i < 6; i++)
@@ -23,8 +41,8 @@ static void turn(const char *name, uint32_t word, uint32_t allowance)
 static void check(const char *name, uint32_t word)
 {
     uint64_t element, pages, page, right;
-    uint64_t answer = prashunde_access_check(word, registers, sizeof registers, scalars, 32, memory, sizeof memory, rights, sizeof rights,
-                                             control, &element, &pages, &page, &right);
+    uint64_t answer = board.check(word, registers, board.bytes, scalars, 32, memory, sizeof memory, rights, sizeof rights, control,
+                                  &element, &pages, &page, &right);
     printf("check %s: answer %" PRIu64 ", element %" PRIu64 ", pages %" PRIu64, name, answer, element, pages);
     printf(", page %" PRIu64 ", right %" PRIu64 "\n", page, right);
 }
@@ -32,7 +50,7 @@ static void check(const char *name, uint32_t word)
 static void view(size_t first, size_t count)
 {
     size_t start, size;
-    uint64_t answer = prashunde_view(registers, sizeof registers, first, count, &start, &size);
+    uint64_t answer = board.view(registers, board.bytes, first, count, &start, &size);
     printf("view v%zu, %zu: answer %" PRIu64 ", bytes", first, count, answer);
     for (size_t i = 0; i < size; i++)
         printf(" %u", registers[start + i]);
@@ -42,8 +60,8 @@ static void view(size_t first, size_t count)
 static void csr(uint64_t number, uint64_t written)
 {
     uint64_t value;
-    uint64_t answer = prashunde_csr_write(number, written, control);
-    uint64_t after = prashunde_csr_read(number, control, &value);
+    uint64_t answer = board.csr_write(number, written, control);
+    uint64_t after = board.csr_read(number, control, &value);
     printf("csr %" PRIx64 ": write %" PRIu64 ", read %" PRIu64 ", value %" PRIu64 "\n", number, answer, after, value);
 }
 
@@ -61,8 +79,34 @@ static void sheet(const char *text)
     fwrite(out, 1, needed, stdout);
 }
 
+/* The smaller board has VLMAX 64 where the first one has 128; EEW 64 is illegal there. */
+static void on_the_smaller_board(void)
+{
+    board = small;
+    memset(registers, 0, sizeof registers);
+    memset(rights, 0, sizeof rights);
+    rights[0] = 2;
+    scalars[10] = 100;
+    prashunde_reset(control);
+    turn("small: vsetvli x12, x10, e8, m8", 0x00357657, 1);
+    check("small: vle8.v v8, (x11)", 0x02058407);
+    turn("small: vle8.v v8, (x11)", 0x02058407, UINT32_MAX);
+    rights[1] = 1;
+    turn("small: page 1 open", 0x02058407, UINT32_MAX);
+    turn("small: vle64.v v8, (x11)", 0x0205f407, UINT32_MAX);
+    view(8, 1);
+    view(14, 2);
+    csr(0x008, 127); /* vstart keeps 6 bits */
+    csr(0xc22, 1);
+    control[2] = 64;
+    turn("small: vstart above 63", 0x02058407, UINT32_MAX);
+    board.bytes = 512;
+    turn("small: 512 bytes of registers", 0x02058407, UINT32_MAX);
+}
+
 int main(void)
 {
+    board = first;
     for (size_t a = 0; a < sizeof memory; a++)
         memory[a] = a % 251;
     rights[0] = 2;
@@ -107,6 +151,7 @@ int main(void)
     control[5] = 1;
     control[1] = 33;
     turn("vl above VLMAX", 0x02058407, UINT32_MAX);
+    on_the_smaller_board();
     sheet("rights=w---------------\nx10=0000000000000003\nx11=00000000000000f8\nx12=0000000000000000\nallow=1\n"
           "word=01057657\nword=0205e407\nend=1\n");
     sheet("rights=\n");

@@ -1,9 +1,11 @@
 //! A load in three turns: a closed page stops it, as the access check says before, then an allowance of 3 pauses it; a load of segments in
-//! two; and one that is not aligned. Then the other calls, what VS does, and a sheet. bindings/c/turns.c prints the same.
-use prashunde::{access_check, csr_read, csr_write, sheet, sheet_into, turn, view, Answer, Control};
+//! two; and one that is not aligned. Then the other calls, what VS does, a load on the smaller board, and a sheet. bindings/c/turns.c
+//! prints the same.
+use prashunde::{sheet, sheet_into, Answer, Board, Control};
 
 struct Machine {
-    registers: [u8; 512],
+    board: Board,
+    registers: Vec<u8>,
     scalars: [u64; 32],
     memory: [u8; 4096],
     rights: [u8; 256],
@@ -16,7 +18,7 @@ fn number<T>(result: Result<T, Answer>) -> u64 {
 
 impl Machine {
     fn turn(&mut self, name: &str, word: u32, allowance: u32) {
-        let t = turn(
+        let t = self.board.turn(
             word,
             allowance,
             &mut self.registers,
@@ -33,7 +35,9 @@ impl Machine {
     }
 
     fn check(&self, name: &str, word: u32) {
-        let c = access_check(word, &self.registers, &self.scalars, &self.memory, &self.rights, &self.control);
+        let c = self
+            .board
+            .access_check(word, &self.registers, &self.scalars, &self.memory, &self.rights, &self.control);
         println!(
             "check {name}: answer {}, element {}, pages {}, page {}, right {}",
             c.answer as u64, c.element, c.pages, c.wanted.page, c.wanted.right
@@ -41,7 +45,7 @@ impl Machine {
     }
 
     fn view(&self, first: usize, count: usize) {
-        let group = view(&self.registers, first, count);
+        let group = self.board.view(&self.registers, first, count);
         print!("view v{first}, {count}: answer {}, bytes", number(group));
         for byte in group.unwrap_or(&[]) {
             print!(" {byte}");
@@ -50,8 +54,8 @@ impl Machine {
     }
 
     fn csr(&mut self, csr: u64, written: u64) {
-        let write = csr_write(csr, written, &mut self.control);
-        let read = csr_read(csr, &self.control);
+        let write = self.board.csr_write(csr, written, &mut self.control);
+        let read = self.board.csr_read(csr, &self.control);
         println!(
             "csr {csr:x}: write {}, read {}, value {}",
             number(write),
@@ -70,9 +74,34 @@ fn print_sheet(lines: &str) {
     print!("{}", String::from_utf8_lossy(&sheet(lines.as_bytes())));
 }
 
+/// The smaller board has VLMAX 64 where the first one has 128; EEW 64 is illegal there.
+fn on_the_smaller_board(m: &mut Machine) {
+    m.board = Board::Small;
+    m.registers = vec![0; 256];
+    m.rights = [0; 256];
+    m.rights[0] = 2;
+    m.scalars[10] = 100;
+    m.control = Control::reset();
+    m.turn("small: vsetvli x12, x10, e8, m8", 0x00357657, 1);
+    m.check("small: vle8.v v8, (x11)", 0x02058407);
+    m.turn("small: vle8.v v8, (x11)", 0x02058407, u32::MAX);
+    m.rights[1] = 1;
+    m.turn("small: page 1 open", 0x02058407, u32::MAX);
+    m.turn("small: vle64.v v8, (x11)", 0x0205f407, u32::MAX);
+    m.view(8, 1);
+    m.view(14, 2);
+    m.csr(0x008, 127); // vstart keeps 6 bits
+    m.csr(0xc22, 1);
+    m.control.vstart = 64;
+    m.turn("small: vstart above 63", 0x02058407, u32::MAX);
+    m.registers = vec![0; 512];
+    m.turn("small: 512 bytes of registers", 0x02058407, u32::MAX);
+}
+
 fn main() {
     let mut m = Machine {
-        registers: [0; 512],
+        board: Board::First,
+        registers: vec![0; 512],
         scalars: [0; 32],
         memory: std::array::from_fn(|a| (a % 251) as u8),
         rights: [0; 256],
@@ -119,6 +148,7 @@ fn main() {
     m.control.vs = 1;
     m.control.vl = 33;
     m.turn("vl above VLMAX", 0x02058407, u32::MAX);
+    on_the_smaller_board(&mut m);
     print_sheet(concat!(
         "rights=w---------------\nx10=0000000000000003\nx11=00000000000000f8\nx12=0000000000000000\nallow=1\n",
         "word=01057657\nword=0205e407\nend=1\n"
