@@ -14,7 +14,6 @@ ghost use Rattle.access_check.specs.AccessCheck.{accessCheckOf};
 ghost use Rattle.sheet.specs.Run.{printed, buffered};
 ghost use Rattle.sheet.specs.Bounds.{sheetBound};
 ghost use Rattle.crossing.specs.Crossing.{Shows, Tells};
-use control::Board;
 use control::Control;
 
 // One turn of a word: the answer's number, and in the lent parts what the turn leaves.
@@ -41,20 +40,16 @@ pub extern "C" fn prashunde_turn(
         (now (scalars .exit)) (now (memory .exit)) (now (rights .entry)) (now (control .exit))
         ⌝ }
 {
-    crossing::turn_on(
-        Board::base(),
+    let turned = turn::turn(
         word,
         allowance,
         registers,
         scalars,
         memory,
         rights,
-        control,
-        passed,
-        address,
-        page,
-        right,
-    )
+        Control::of_fields(*control),
+    );
+    crossing::turned(turned, control, passed, address, page, right)
 }
 
 #[no_mangle]
@@ -80,20 +75,16 @@ pub extern "C" fn prashunde_small_turn(
         (now (scalars .exit)) (now (memory .exit)) (now (rights .entry)) (now (control .exit))
         ⌝ }
 {
-    crossing::turn_on(
-        Board::small(),
+    let turned = turn::small_turn(
         word,
         allowance,
         registers,
         scalars,
         memory,
         rights,
-        control,
-        passed,
-        address,
-        page,
-        right,
-    )
+        Control::of_fields(*control),
+    );
+    crossing::turned(turned, control, passed, address, page, right)
 }
 
 // What an uncut turn of a unit-stride access would answer: the answer's number, the element, the number of pages tested, and the page and
@@ -123,19 +114,15 @@ pub extern "C" fn prashunde_access_check(
         × ((now (memory .exit) ≡ now (memory .entry))
         × ((now (rights .exit) ≡ now (rights .entry)) × (now (control .exit) ≡ now (control .entry))))) ⌝ }
 {
-    crossing::access_check_on(
-        Board::base(),
+    let checked = access_check::check(
         word,
         registers,
         scalars,
         memory,
         rights,
-        control,
-        element,
-        pages,
-        page,
-        right,
-    )
+        Control::of_fields(*control),
+    );
+    crossing::checked(checked, element, pages, page, right)
 }
 
 #[no_mangle]
@@ -163,19 +150,15 @@ pub extern "C" fn prashunde_small_access_check(
         × ((now (memory .exit) ≡ now (memory .entry))
         × ((now (rights .exit) ≡ now (rights .entry)) × (now (control .exit) ≡ now (control .entry))))) ⌝ }
 {
-    crossing::access_check_on(
-        Board::small(),
+    let checked = access_check::small_check(
         word,
         registers,
         scalars,
         memory,
         rights,
-        control,
-        element,
-        pages,
-        page,
-        right,
-    )
+        Control::of_fields(*control),
+    );
+    crossing::checked(checked, element, pages, page, right)
 }
 
 // A CSR of the record; 0 beside any other answer than 0. The record is as before: a read sets no VS.
@@ -185,7 +168,7 @@ pub extern "C" fn prashunde_csr_read(csr: u64, control: &[u64; 6], value: &mut u
     ensures { λ _. ⌜ now (value .exit) ≡ readOf base (recordOf (now (control .entry))) csr .value ⌝ }
     ensures { λ _. ⌜ now (control .exit) ≡ now (control .entry) ⌝ }
 {
-    crossing::csr_read_on(Board::base(), csr, control, value)
+    crossing::read(csr::read(Control::of_fields(*control), csr), value)
 }
 
 #[no_mangle]
@@ -194,7 +177,7 @@ pub extern "C" fn prashunde_small_csr_read(csr: u64, control: &[u64; 6], value: 
     ensures { λ _. ⌜ now (value .exit) ≡ readOf small (recordOf (now (control .entry))) csr .value ⌝ }
     ensures { λ _. ⌜ now (control .exit) ≡ now (control .entry) ⌝ }
 {
-    crossing::csr_read_on(Board::small(), csr, control, value)
+    crossing::read(csr::small_read(Control::of_fields(*control), csr), value)
 }
 
 // The record after a write, through the write on a lent record; the same record beside any other answer than 0.
@@ -203,7 +186,8 @@ pub extern "C" fn prashunde_csr_write(csr: u64, value: u64, control: &mut [u64; 
     ensures { λ r. ⌜ r ≡ numberOf (writtenOf base (recordOf (now (control .entry))) csr value .answer) ⌝ }
     ensures { λ _. ⌜ now (control .exit) ≡ fieldsOf (writtenOf base (recordOf (now (control .entry))) csr value .control) ⌝ }
 {
-    crossing::csr_write_on(Board::base(), csr, value, control)
+    let written = csr_field::written(Control::of_fields(*control), csr, value);
+    crossing::written(written, control)
 }
 
 #[no_mangle]
@@ -211,7 +195,8 @@ pub extern "C" fn prashunde_small_csr_write(csr: u64, value: u64, control: &mut 
     ensures { λ r. ⌜ r ≡ numberOf (writtenOf small (recordOf (now (control .entry))) csr value .answer) ⌝ }
     ensures { λ _. ⌜ now (control .exit) ≡ fieldsOf (writtenOf small (recordOf (now (control .entry))) csr value .control) ⌝ }
 {
-    crossing::csr_write_on(Board::small(), csr, value, control)
+    let written = csr_field::small_written(Control::of_fields(*control), csr, value);
+    crossing::written(written, control)
 }
 
 // Where a group of registers lies in the file: registers[start .. start + size]. Both are 0 beside any other answer than 0.
@@ -227,7 +212,7 @@ pub extern "C" fn prashunde_view(
     ensures { λ _. ⌜ now (start .exit) ≡ placeOf base (length (now (registers .entry))) first count .start ⌝ }
     ensures { λ _. ⌜ now (size .exit) ≡ placeOf base (length (now (registers .entry))) first count .size ⌝ }
 {
-    crossing::view_on(Board::base(), registers, first, count, start, size)
+    crossing::placed(view::place(registers.len(), first, count), start, size)
 }
 
 #[no_mangle]
@@ -242,7 +227,11 @@ pub extern "C" fn prashunde_small_view(
     ensures { λ _. ⌜ now (start .exit) ≡ placeOf small (length (now (registers .entry))) first count .start ⌝ }
     ensures { λ _. ⌜ now (size .exit) ≡ placeOf small (length (now (registers .entry))) first count .size ⌝ }
 {
-    crossing::view_on(Board::small(), registers, first, count, start, size)
+    crossing::placed(
+        view::small_place(registers.len(), first, count),
+        start,
+        size,
+    )
 }
 
 // The record after reset: vill, and VS Initial.

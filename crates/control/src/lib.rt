@@ -7,10 +7,11 @@ ghost use Rattle.control.specs.Vtype.{lmul8Of, sewOf, vlmaxOf, supported
 ghost use Rattle.control.specs.Control.{reset, withVtype, withVstart, withVxrm, withVxsat, withVs, dirtied, isOff};
 ghost use Rattle.control.specs.Control.{fieldsOf, recordOf, villOf, setTo, keepsOf, setOf, typedWellOf, possibleOf};
 
-// VLENB (the bytes of a vector register) and ELEN (the bits of the largest element).
+// VLENB (the bytes of a vector register) and ELEN (the bits of the largest element). Both fit 8 bytes, so that a board is lent to a call in one
+// piece: stored in two and loaded as one it would stall the call.
 pub struct Board {
-    pub vlenb: u64,
-    pub elen: u64,
+    pub vlenb: u32,
+    pub elen: u32,
 }
 
 impl Board {
@@ -208,7 +209,7 @@ impl Control {
         requires { ⌜ Valid board ⌝ }
         ensures { λ r. ⌜ r ≡ vlmaxOf board vtype ⌝ }
     {
-        Control::lmul8(vtype) * board.vlenb / Control::sew(vtype)
+        Control::lmul8(vtype) * (board.vlenb as u64) / Control::sew(vtype)
     }
 
     // Whether vtype is supported. `&` and `|` take both sides, as the definitions do: there is no branch.
@@ -216,12 +217,13 @@ impl Control {
         requires { ⌜ Valid board ⌝ }
         ensures { λ r. ⌜ r ≡ supportedOf board vtype ⌝ }
     {
+        let elen = board.elen as u64;
         let sew = Control::sew(vtype);
         let lmul8 = Control::lmul8(vtype);
         (vtype < 256)
-            & (sew <= board.elen)
+            & (sew <= elen)
             & (vtype % 8 != 4)
-            & ((8 <= lmul8) | (8 * sew <= board.elen * lmul8))
+            & ((8 <= lmul8) | (8 * sew <= elen * lmul8))
     }
 
     // vstart is 0 after a setting instruction.
@@ -279,7 +281,7 @@ impl Control {
         ensures { λ r. ⌜ r ≡ possibleOf board self ⌝ }
     {
         self.typed_well(board)
-            & (self.vstart < 8 * board.vlenb)
+            & (self.vstart < 8 * (board.vlenb as u64))
             & (self.vxrm <= 3)
             & (self.vxsat <= 1)
             & (self.vs <= 3)

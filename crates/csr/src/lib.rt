@@ -42,7 +42,7 @@ pub fn read_on(board: Board, control: Control, csr: u64) -> CsrRead
         0x00F => 2 * control.vxrm + control.vxsat,
         0xC20 => control.vl,
         0xC21 => control.vtype,
-        0xC22 => board.vlenb,
+        0xC22 => board.vlenb as u64,
         _ => {
             return CsrRead {
                 answer: Answer::Illegal,
@@ -76,7 +76,7 @@ pub fn write_on(board: Board, control: Control, csr: u64, value: u64) -> CsrWrit
     let mut next = control.dirtied();
     match csr {
         0x008 => {
-            next.vstart = value % (8 * board.vlenb);
+            next.vstart = value % (8 * (board.vlenb as u64));
         }
         0x009 => {
             next.vxsat = value % 2;

@@ -34,7 +34,7 @@ fn may_start(board: Board, control: Control) -> bool
     ensures { λ r. ⌜ r ≡ startable board control ⌝ }
 {
     (control.vtype != 0x8000_0000_0000_0000)
-        & (control.vstart < 64 * board.vlenb / Control::sew(control.vtype))
+        & (control.vstart < 64 * (board.vlenb as u64) / Control::sew(control.vtype))
 }
 
 // Whether a destination may overlap a source as it does: not at all, where the instruction is strict.

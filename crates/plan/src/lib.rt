@@ -463,7 +463,7 @@ fn transferring(board: Board, x: &[u64], control: Control, a: Access) -> Element
         }
         Mode::Whole(n) => {
             let t = transfer_by(a.store, base, bytes, bytes);
-            let end = (n as u64) * (8 * board.vlenb) / eew;
+            let end = (n as u64) * (8 * (board.vlenb as u64)) / eew;
             let group = fixed_group(a.vd, eew as usize, (8 * n) as u32);
             moving(a, false, group, plain, t, end)
         }

@@ -38,7 +38,7 @@ pub fn refusal_on(
     requires { ⌜ Valid board ⌝ }
     ensures { λ r. ⌜ r ≡ refusalOf board registers scalars memory (now (rights .entry)) control ⌝ }
 {
-    if registers as u64 != 32 * board.vlenb {
+    if registers as u64 != 32 * (board.vlenb as u64) {
         return Verdict::Refused(Answer::BadRegisters);
     }
     if scalars != 32 {

@@ -41,7 +41,7 @@ pub fn place_on(board: Board, bytes: usize, first: usize, count: usize) -> ViewP
     requires { ⌜ Valid board ⌝ }
     ensures { λ r. ⌜ r ≡ placeOf board bytes first count ⌝ }
 {
-    let whole = bytes as u64 == 32 * board.vlenb;
+    let whole = bytes as u64 == 32 * (board.vlenb as u64);
     let group = is_group(first, count);
     if !whole {
         return no_part(Answer::BadRegisters);

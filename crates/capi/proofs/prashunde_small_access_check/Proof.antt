@@ -1,5 +1,5 @@
 use borrow.Author.Needs.{needs}
-use Rattle.capi.proofs.Instances.{told-by}
+use Rattle.capi.proofs.Shown.{told}
 use Rattle.capi.proofs.prashunde_small_access_check.Statement.{statement}
 use Rattle.capi.proofs.prashunde_small_access_check.Tie as tie
 
@@ -9,4 +9,5 @@ prashunde-small-access-check-spec =
     (tie.spec
     (λ c κs. search needs)
     (λ c κs. search needs)
-    (λ c. (search told-by, (search needs, (search needs, (search needs, (search needs, search needs)))))))
+    (λ c κs. search needs)
+    (λ c. (search told, (search needs, (search needs, (search needs, (search needs, search needs)))))))

@@ -1,9 +1,10 @@
 use borrow.Author.Needs.{needs}
-use Rattle.capi.proofs.Instances.{read-number-by, read-value-by}
+use Rattle.capi.proofs.Shown.{read-number, read-value}
 use Rattle.capi.proofs.prashunde_small_csr_read.Statement.{statement}
 use Rattle.capi.proofs.prashunde_small_csr_read.Tie as tie
 
 pub prashunde-small-csr-read-spec : {M : Type 1} → statement M
 prashunde-small-csr-read-spec =
     tie.close
-    (tie.spec (λ c κs. search needs) (λ c κs. search needs) (λ c. (search read-number-by, (search read-value-by, search needs))))
+    (tie.spec (λ c κs. search needs) (λ c κs. search needs) (λ c κs. search needs)
+    (λ c. (search read-number, (search read-value, search needs))))

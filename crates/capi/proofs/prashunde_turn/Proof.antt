@@ -1,5 +1,5 @@
 use borrow.Author.Needs.{needs}
-use Rattle.capi.proofs.Instances.{shown-by}
+use Rattle.capi.proofs.Shown.{shown}
 use Rattle.capi.proofs.prashunde_turn.Statement.{statement}
 use Rattle.capi.proofs.prashunde_turn.Tie as tie
 
@@ -9,7 +9,8 @@ prashunde-turn-spec =
     (tie.spec
     (λ c κs. search needs)
     (λ c κs. search needs)
+    (λ c κs. search needs)
     (λ c. search needs)
     (λ c. search needs)
     (λ c. search needs)
-    (λ c. search shown-by))
+    (λ c. search shown))

@@ -27,6 +27,7 @@ read-on-spec =
     (λ c. rw (possible (c .before .before), sym (c .before .is-off .ensures) ∙ c .if2 .taken))
     (λ c. omega (arith, possible-apart _ _ (possible (c .before .before .before .before))))
     (λ c. omega (arith, possible-apart _ _ (possible (c .before .before .before .before .before))))
+    (λ c. search needs)
     (λ c.
     let n = c .match .rest in
     rw (
@@ -46,4 +47,4 @@ read-on-spec =
     (λ c. rw (possible (c .before .before .before .before .before), on (c .before .before .before), c .before .before .match .keys4))
     (λ c. rw (possible (c .before .before .before), on (c .before), c .match .keys5))
     (λ c. rw (possible (c .before .before .before), on (c .before), c .match .keys6))
-    (λ c. rw (possible (c .before .before .before), on (c .before), c .match .keys7)))
+    (λ c. rw (possible (c .before .before .before .before), on (c .before .before), c .before .match .keys7)))

@@ -26,6 +26,7 @@ write-on-spec =
     (λ c κs. search needs)
     (λ c. search needs)
     (λ c. search needs)
+    (λ c. search needs)
     (λ c.
     let n = c .match .rest in
     rw (

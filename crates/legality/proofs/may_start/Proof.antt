@@ -9,6 +9,7 @@ may-start-spec =
     tie.close
     (tie.spec
     (λ c. search needs)
+    (λ c. search needs)
     (λ c κs. search needs)
     (λ c. omega (arith, sew-ge (c .before .before .before .args .control .vtype), c .sew .ensures))
     (λ c. rw (c .before .sew .ensures)))

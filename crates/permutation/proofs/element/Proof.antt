@@ -9,6 +9,7 @@ unfolding actingOf
 element-spec =
     tie.close
     (tie.spec
+    (λ c. search needs)
     (λ c κs. search needs)
     (λ c. search needs)
     (λ c rights memory x d. search masked-off)

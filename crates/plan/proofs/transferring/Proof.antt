@@ -40,6 +40,7 @@ transferring-spec =
     (λ c. search needs)
     (λ c κs. search needs)
     (λ c. search needs)
+    (λ c. search needs)
     (λ c. search whole-bits)
     (λ c. search access-some)
     (λ c. search whole-emul)

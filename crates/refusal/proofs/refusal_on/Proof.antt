@@ -41,6 +41,7 @@ refusal-on-spec =
     tie.close
     (tie.spec
     (λ c. search needs)
+    (λ c. search needs)
     (λ c. search ways)
     (λ c. search ways)
     (λ c. search ways)

@@ -6,4 +6,4 @@ use Rattle.unit_stride.proofs.tested.Tie as tie
 pub tested-spec : {M : Type 1} → statement M
 tested-spec =
     tie.close
-    (tie.spec (λ c κs. search needs) (λ c. search by-mask) (λ c κs. search needs) (λ c. search without-mask))
+    (tie.spec (λ c. search needs) (λ c κs. search needs) (λ c. search by-mask) (λ c κs. search needs) (λ c. search without-mask))

@@ -46,11 +46,13 @@ place-on-spec =
     tie.close
     (tie.spec
     (λ c. search needs)
+    (λ c. search needs)
     (λ c κs. search needs)
     (λ c κs. search needs)
     (λ c. search wrong-file)
     (λ c κs. search needs)
     (λ c. search no-group)
+    (λ c. search needs)
     (λ c. search fits)
     (λ c. search fits)
     (λ c. search the-part))

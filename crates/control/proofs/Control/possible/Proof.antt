@@ -15,4 +15,4 @@ unfolding possibleOf
 is-possible b c t e = simp (e, and-assoc)
 
 pub possible-spec : {M : Type 1} → statement M
-possible-spec = tie.close (tie.spec (λ c κs. search needs) (λ c. search needs) (λ c. search is-possible))
+possible-spec = tie.close (tie.spec (λ c κs. search needs) (λ c. search needs) (λ c. search needs) (λ c. search is-possible))

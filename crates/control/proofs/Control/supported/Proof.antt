@@ -11,8 +11,9 @@ unfolding supportedOf
 supported-spec =
     tie.close
     (tie.spec
+    (λ c. search needs)
     (λ c κs. search needs)
     (λ c κs. search needs)
     (λ c. omega (arith, sew-le (c .before .before .before .args .vtype)))
-    (λ c. product-fits _ _ (omega arith) (omega (arith, lmul8-le (c .before .before .before .before .args .vtype))))
-    (λ c. simp (c .before .before .before .sew .ensures, c .before .before .lmul8 .ensures, and-assoc)))
+    (λ c. product-fits _ _ (omega arith) (omega (arith, lmul8-le (c .before .before .before .args .vtype))))
+    (λ c. simp (c .before .sew .ensures, c .lmul8 .ensures, and-assoc)))

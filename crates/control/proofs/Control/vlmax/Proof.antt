@@ -11,6 +11,7 @@ vlmax-spec =
     tie.close
     (tie.spec
     (λ c κs. search needs)
+    (λ c. search needs)
     (λ c. product-fits _ _ (omega (arith, lmul8-le (c .before .before .args .vtype))) (omega arith))
     (λ c κs. search needs)
     (λ c. omega (arith, sew-ge (c .before .before .before .args .vtype)))

@@ -1,6 +1,6 @@
--- What the caller sees after a call is what the call's definition gives, on any board.
+-- What the caller sees after a call is what the call's definition gives, on the board b whose call it is.
 use Prim.Native.Nat.{ℕ}
-use mathlib.Core.Path.{_≡_, refl}
+use mathlib.Core.Path.{_≡_}
 use mathlib.Core.List.{List}
 use Rattle.answer.specs.Answer.{numberOf}
 use Rattle.control.specs.declared.Board.{Board}
@@ -16,36 +16,21 @@ use Rattle.machine.specs.declared.Turned.{Turned}
 use Rattle.machine.specs.Call.{given, left}
 use Rattle.unit_stride.specs.declared.Checked.{Checked}
 use Rattle.access_check.specs.AccessCheck.{accessCheckOf}
 use Rattle.crossing.specs.Crossing.{Shows, Tells}
-
-pub shown :
-    (b : Board) (word n : ℕ) (t : Turned) (r s m r′ s′ m′ p : List ℕ) (c c₀ : Control) (l : List ℕ) (a passed address page right : ℕ) →
-    c ≡ c₀ →
-    left t r′ s′ m′ p ≡ turnOf b word n (given r s m p c) → a ≡ numberOf (t .answer) → passed ≡ t .passed →
-    address ≡ t .place .address → page ≡ t .place .wanted .page → right ≡ t .place .wanted .right → l ≡ fieldsOf (t .control) →
-    Shows (turnOf b word n (given r s m p c₀)) a passed address page right r′ s′ m′ p l
-shown b word n t r s m r′ s′ m′ p c c₀ l a passed address page right e h f g k x y u = rw (← e, ← h) (record {
-  answer-is = f;
-  passed-is = g;
-  address-is = k;
-  page-is = x;
-  right-is = y;
-  registers-are = refl;
-  scalars-are = refl;
-  memory-is = refl;
-  rights-are = refl;
-  control-is = u;
-})
-
-pub told :
-    (b : Board) (word : ℕ) (t : Checked) (r s m p : List ℕ) (c c₀ : Control) (a element pages page right : ℕ) → c ≡ c₀ →
-    t ≡ accessCheckOf b word (given r s m p c) → a ≡ numberOf (t .answer) → element ≡ t .element → pages ≡ t .pages →
-    page ≡ t .wanted .page → right ≡ t .wanted .right →
-    Tells (accessCheckOf b word (given r s m p c₀)) a element pages page right
-told b word t r s m p c c₀ a element pages page right e h f g k x y =
-    rw (← e, ← h) (record { answer-is = f; element-is = g; pages-are = k; page-is = x; right-is = y })
 
 module _ (b : Board) (fields : List ℕ) (c : Control) (e : c ≡ recordOf fields) where
+  pub shown :
+      (word n : ℕ) (t : Turned) (r s m r′ s′ m′ p l : List ℕ) (a passed address page right : ℕ) →
+      left t r′ s′ m′ p ≡ turnOf b word n (given r s m p c) →
+      ((r s m p : List ℕ) → Shows (left t r s m p) a passed address page right r s m p l) →
+      Shows (turnOf b word n (given r s m p (recordOf fields))) a passed address page right r′ s′ m′ p l
+  shown word n t r s m r′ s′ m′ p l a passed address page right h f = rw (← e, ← h) (f r′ s′ m′ p)
+
+  pub told :
+      (word : ℕ) (t : Checked) (r s m p : List ℕ) (a element pages page right : ℕ) → t ≡ accessCheckOf b word (given r s m p c) →
+      Tells t a element pages page right → Tells (accessCheckOf b word (given r s m p (recordOf fields))) a element pages page right
+  told word t r s m p a element pages page right h f = rw (← e, ← h) f
+
   pub read-number :
       (w : CsrRead) (csr a : ℕ) → w ≡ readOf b c csr → a ≡ numberOf (w .answer) →
       a ≡ numberOf (readOf b (recordOf fields) csr .answer)
