@@ -27,8 +27,9 @@ module _ (b : Board) (fields : List ℕ) (c : Control) (e : c ≡ recordOf field
   shown word n t r s m r′ s′ m′ p l a passed address page right h f = rw (← e, ← h) (f r′ s′ m′ p)
 
   pub told :
-      (word : ℕ) (t : Checked) (r s m p : List ℕ) (a element pages page right : ℕ) → t ≡ accessCheckOf b word (given r s m p c) →
-      Tells t a element pages page right → Tells (accessCheckOf b word (given r s m p (recordOf fields))) a element pages page right
+      (word : ℕ) (t : Checked) (r s m p : List ℕ) (a element pages page right : ℕ) →
+      t ≡ accessCheckOf b word (given r s m p c) → Tells t a element pages page right →
+      Tells (accessCheckOf b word (given r s m p (recordOf fields))) a element pages page right
   told word t r s m p a element pages page right h f = rw (← e, ← h) f
 
   pub read-number :

@@ -11,8 +11,8 @@ base = record { vlenb = 16; elen = 64 }
 abbrev pub small : Board
 small = record { vlenb = 8; elen = 32 }
 
--- for contracts of inner functions, and for laws over every board: the boards that the code is for, `base` and `small` among them. VLENB is a
--- power of 2 and at most 16, ELEN at most 64 and at most VLEN
+-- for contracts of inner functions, and for laws over every board: the boards that the code is for, `base` and `small` among them. VLENB is
+-- a power of 2 and at most 16, ELEN at most 64 and at most VLEN
 pub record Valid (b : Board) : Type 0 where
   pub lenb : ℕ
   pub power : b .vlenb ≡ 2 ^ lenb

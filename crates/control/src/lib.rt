@@ -7,8 +7,8 @@ ghost use Rattle.control.specs.Vtype.{lmul8Of, sewOf, vlmaxOf, supported
 ghost use Rattle.control.specs.Control.{reset, withVtype, withVstart, withVxrm, withVxsat, withVs, dirtied, isOff};
 ghost use Rattle.control.specs.Control.{fieldsOf, recordOf, villOf, setTo, keepsOf, setOf, typedWellOf, possibleOf};
 
-// VLENB (the bytes of a vector register) and ELEN (the bits of the largest element). Both fit 8 bytes, so that a board is lent to a call in one
-// piece: stored in two and loaded as one it would stall the call.
+// VLENB (the bytes of a vector register) and ELEN (the bits of the largest element). The two fit 8 bytes, so that a board is stored and
+// loaded in one piece: stored in two and loaded in one it would delay each call.
 pub struct Board {
     pub vlenb: u32,
     pub elen: u32,

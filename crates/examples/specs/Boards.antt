@@ -87,7 +87,9 @@ vlmaxAt b v = cond (supportedOf b v) (vlmaxOf b v) 0
 -- VLMAX by vsew, and by vlmul in the order of LMUL; `agnostic` is vta and vma at their places
 abbrev pub vlmaxTable : Board → ℕ → List (List ℕ)
 vlmaxTable b agnostic =
-    map (λ (vsew : ℕ). map (λ (vlmul : ℕ). vlmaxAt b (agnostic + 8 * vsew + vlmul)) (5 ∷ 6 ∷ 7 ∷ 0 ∷ 1 ∷ 2 ∷ 3 ∷ [])) (0 ∷ 1 ∷ 2 ∷ 3 ∷ [])
+    map (λ (vsew : ℕ).
+    map (λ (vlmul : ℕ). vlmaxAt b (agnostic + 8 * vsew + vlmul)) (5 ∷ 6 ∷ 7 ∷ 0 ∷ 1 ∷ 2 ∷ 3 ∷ []))
+    (0 ∷ 1 ∷ 2 ∷ 3 ∷ [])
 
 -- the answers to a turn of allowance 0 of each word with vl 0: legality goes by neither, and a legal word moves no element. One whose
 -- elements vl does not count, a whole-register load, pauses

@@ -177,5 +177,6 @@ module _ (b : Board) (word : ℕ) (file x memory rights : List ℕ) (c : Control
     elements-word n e o f = planned-turn n (P.Elements e) o (elements-planned b x c d p u e f .0)
 
 -- ---- the turn on a board b is that on the board that a promise names, where b is that board
-pub turned-by : (b named : Board) (word n : ℕ) (s : State) (o : Outcome) → b ≡ named → o ≡ turnOf b word n s → o ≡ turnOf named word n s
+pub turned-by : (b named : Board) (word n : ℕ) (s : State) (o : Outcome) → b ≡ named → o ≡ turnOf b word n s
+    → o ≡ turnOf named word n s
 turned-by b named word n s o e h = rw (← e) h

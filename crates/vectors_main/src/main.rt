@@ -1,9 +1,9 @@
 // Runs instruction vectors through the public calls. Standard input has records of lines: 'c' a case (word, allowance, the fields of the
 // control record, and the lengths of the register file, the scalars, memory and the rights), 'x' a scalar, 'v' bytes of the register file
-// from a multiple of 8 on, 'p' the right of a range of pages, and then '.', upon which the turn is taken, or '?', upon which the access check
-// is made; on the smaller board ',' and '!'. Of a turn it writes the answer, the number passed, the fault address, the page and the right
-// that were wanted, the control record after, and every byte or scalar that has changed; of a check the answer, the element, the number of
-// pages, and the page and the right.
+// from a multiple of 8 on, 'p' the right of a range of pages, and then '.', upon which the turn is taken, or '?', upon which the access
+// check is made; on the smaller board ',' and '!'. Of a turn it writes the answer, the number passed, the fault address, the page and the
+// right that were wanted, the control record after, and every byte or scalar that has changed; of a check the answer, the element, the
+// number of pages, and the page and the right.
 ghost use Prim.Native.Nat.{_≤_};
 use access::Wanted;
 use control::Control;
