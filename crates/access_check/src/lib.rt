@@ -99,7 +99,7 @@ fn elements(
 }
 
 // Every word, on a board: refusals 32 to 36, then 2, then the elements.
-pub fn check_on(
+fn check_on(
     board: Board,
     word: u32,
     registers: &[u8],

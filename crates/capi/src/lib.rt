@@ -52,6 +52,7 @@ pub extern "C" fn prashunde_turn(
     crossing::turned(turned, control, passed, address, page, right)
 }
 
+// The same on the smaller board.
 #[no_mangle]
 pub extern "C" fn prashunde_small_turn(
     word: u32,
@@ -125,6 +126,7 @@ pub extern "C" fn prashunde_access_check(
     crossing::checked(checked, element, pages, page, right)
 }
 
+// The same on the smaller board.
 #[no_mangle]
 pub extern "C" fn prashunde_small_access_check(
     word: u32,
@@ -171,6 +173,7 @@ pub extern "C" fn prashunde_csr_read(csr: u64, control: &[u64; 6], value: &mut u
     crossing::read(csr::read(Control::of_fields(*control), csr), value)
 }
 
+// The same on the smaller board.
 #[no_mangle]
 pub extern "C" fn prashunde_small_csr_read(csr: u64, control: &[u64; 6], value: &mut u64) -> u64
     ensures { λ r. ⌜ r ≡ numberOf (readOf small (recordOf (now (control .entry))) csr .answer) ⌝ }
@@ -190,6 +193,7 @@ pub extern "C" fn prashunde_csr_write(csr: u64, value: u64, control: &mut [u64; 
     crossing::written(written, control)
 }
 
+// The same on the smaller board.
 #[no_mangle]
 pub extern "C" fn prashunde_small_csr_write(csr: u64, value: u64, control: &mut [u64; 6]) -> u64
     ensures { λ r. ⌜ r ≡ numberOf (writtenOf small (recordOf (now (control .entry))) csr value .answer) ⌝ }
@@ -215,6 +219,7 @@ pub extern "C" fn prashunde_view(
     crossing::placed(view::place(registers.len(), first, count), start, size)
 }
 
+// The same on the smaller board.
 #[no_mangle]
 pub extern "C" fn prashunde_small_view(
     registers: &[u8],

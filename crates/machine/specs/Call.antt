@@ -1,4 +1,5 @@
--- What a call of a turn is given and leaves, in the definition's terms: `turn::turn` promises `left .. ≡ turnOf base .. (given ..)`.
+-- What a call of a turn is given and leaves, in the definition's terms: `turn::turn` promises `left .. ≡ turnOf base .. (given ..)`, and
+-- `turn::small_turn` the same with `small`.
 use Prim.Native.Nat.{ℕ}
 use mathlib.Core.List.{List}
 use Rattle.control.specs.declared.Control.{Control}

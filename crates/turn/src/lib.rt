@@ -35,7 +35,7 @@ fn finished(control: Control) -> Turned
 }
 
 // Every word, on a board: refusals 32 to 36, then 2, then what its plan says.
-pub fn turn_on(
+fn turn_on(
     board: Board,
     word: u32,
     allowance: u32,

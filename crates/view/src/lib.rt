@@ -58,7 +58,7 @@ pub fn place_on(board: Board, bytes: usize, first: usize, count: usize) -> ViewP
 }
 
 // The bytes of the group, or an empty part; the answer's number beside it.
-pub fn view_with_on<'a>(
+fn view_with_on<'a>(
     board: Board,
     registers: &'a [u8],
     first: usize,
@@ -81,7 +81,7 @@ pub fn view_with_on<'a>(
 }
 
 // The same without the answer.
-pub fn view_on(board: Board, registers: &[u8], first: usize, count: usize) -> &[u8]
+fn view_on(board: Board, registers: &[u8], first: usize, count: usize) -> &[u8]
     requires { ⌜ Valid board ⌝ }
     ensures { λ r. ⌜
         (now r ≡ partOf board (now (registers .entry)) first count)
