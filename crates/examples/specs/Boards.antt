@@ -84,17 +84,30 @@ second = record {
 abbrev pub vlmaxAt : Board → ℕ → ℕ
 vlmaxAt b v = cond (supportedOf b v) (vlmaxOf b v) 0
 
--- VLMAX by vsew, and by vlmul in the order of LMUL; `agnostic` is vta and vma at their places
+-- VLMAX by vsew, and by vlmul in the order of LMUL; `agnostic` is vta (64) and vma (128)
 abbrev pub vlmaxTable : Board → ℕ → List (List ℕ)
 vlmaxTable b agnostic =
     map (λ (vsew : ℕ).
     map (λ (vlmul : ℕ). vlmaxAt b (agnostic + 8 * vsew + vlmul)) (5 ∷ 6 ∷ 7 ∷ 0 ∷ 1 ∷ 2 ∷ 3 ∷ []))
     (0 ∷ 1 ∷ 2 ∷ 3 ∷ [])
 
+abbrev pub vlmaxTables : Board → List (List (List ℕ))
+vlmaxTables b = map (vlmaxTable b) (0 ∷ 64 ∷ 128 ∷ 192 ∷ [])
+
 -- the answers to a turn of allowance 0 of each word with vl 0: legality goes by neither, and a legal word moves no element. One whose
 -- elements vl does not count, a whole-register load, pauses
 abbrev pub answersOn : Board → ℕ → List ℕ → List Answer
 answersOn b vtype words = map (λ (word : ℕ). turnOf b word 0 (blankOn b vtype 0 0) .answer) words
+
+-- at e8, LMUL 1: vle64.v v8, (x10); vluxei64.v and vsuxei64.v v8, (x10), v16; vl1re64.v v8, (x10)
+abbrev pub eew64Answers : Board → List Answer
+eew64Answers b = answersOn b 0x00 (0x02057407 ∷ 0x07057407 ∷ 0x07057427 ∷ 0x02857407 ∷ [])
+
+-- at LMUL 1 and each SEW: vmulhu.vv, vmulhsu.vv, vmulh.vv, vsmul.vv v8, v16, v24
+abbrev pub productAnswers : Board → List (List Answer)
+productAnswers b =
+    map (λ (vtype : ℕ). answersOn b vtype (0x930C2457 ∷ 0x9B0C2457 ∷ 0x9F0C2457 ∷ 0x9F0C0457 ∷ []))
+    (0x00 ∷ 0x08 ∷ 0x10 ∷ 0x18 ∷ [])
 
 pub record Decides (b : Board) (n : Numbers) : Type 0 where
   pub vlen-is : 8 * b .vlenb ≡ n .vlen
@@ -107,16 +120,13 @@ pub record Decides (b : Board) (n : Numbers) : Type 0 where
   pub file-is : refusalOf b (n .file) 32 0 (replicate 256 0) reset ≡ Accepted
   -- those from 256 on are never supported
   pub types-are : supportedBelow b 256 ≡ n .types
-  -- whatever vta (64) and vma (128) are
-  pub vlmax-is : map (vlmaxTable b) (0 ∷ 64 ∷ 128 ∷ 192 ∷ []) ≡ replicate 4 (n .vlmax)
+  -- whatever vta and vma are
+  pub vlmax-is : vlmaxTables b ≡ replicate 4 (n .vlmax)
   -- any other vstart is 36, whatever else the record has; those below it can be
   pub other-vstart : (c : Control) → ltb (c .vstart) (n .vstarts) ≡ false → possibleOf b c ≡ false
   pub vstarts-are : (v : ℕ) → possibleOf b (withVstart reset v) ≡ ltb v (n .vstarts)
   pub kept-are : (c : Control) (x : ℕ) → possibleOf b c ≡ true → isOff c ≡ false
       → writtenOf b c 0x008 x ≡ changed (withVstart c (x % 2 ^ n .kept))
   pub bound-is : (c : Control) → startable b c ≡ (not (eqb (c .vtype) vill) && ltb (c .vstart) (n .bound / sewOf (c .vtype)))
-  -- at e8, LMUL 1: vle64.v v8, (x10); vluxei64.v and vsuxei64.v v8, (x10), v16; vl1re64.v v8, (x10)
-  pub eew64-is : answersOn b 0x00 (0x02057407 ∷ 0x07057407 ∷ 0x07057427 ∷ 0x02857407 ∷ []) ≡ n .eew64
-  -- at LMUL 1: vmulhu.vv, vmulhsu.vv, vmulh.vv, vsmul.vv v8, v16, v24
-  pub products-are : map (λ (vtype : ℕ). answersOn b vtype (0x930C2457 ∷ 0x9B0C2457 ∷ 0x9F0C2457 ∷ 0x9F0C0457 ∷ []))
-      (0x00 ∷ 0x08 ∷ 0x10 ∷ 0x18 ∷ []) ≡ map (replicate 4) (n .products)
+  pub eew64-is : eew64Answers b ≡ n .eew64
+  pub products-are : productAnswers b ≡ map (replicate 4) (n .products)
