@@ -1,7 +1,7 @@
 // Nanoseconds of an uncut turn through the C interface, word by word, beside a plain loop for the first word; and of the access check
 // beside the turn that it is the check of.
 mod words;
-use prashunde::ffi::{prashunde_access_check, prashunde_turn};
+use prashunde::ffi::{prashunde_access_check, prashunde_small_turn, prashunde_turn};
 use std::hint::black_box;
 use std::time::Instant;
 use words::{Row, CHECKS, ILLEGAL, ROWS};
@@ -43,9 +43,15 @@ struct Told {
     right: u64,
 }
 
+// On the smaller board where the registers are those of that.
 fn turn(word: u32, s: &mut State, told: &mut Told) -> u64 {
+    let call = if s.registers.len() == 256 {
+        prashunde_small_turn
+    } else {
+        prashunde_turn
+    };
     unsafe {
-        prashunde_turn(
+        call(
             word,
             u32::MAX,
             s.registers.as_mut_ptr(),

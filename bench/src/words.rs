@@ -61,6 +61,11 @@ const fn one_turn(name: &'static str, word: u32, sew: u64, lmul: u64, vl: u64) -
     }
 }
 
+// A word on the smaller board, which has 256 bytes of registers.
+const fn on_small(row: Row) -> Row {
+    Row { registers: 256, ..row }
+}
+
 // Such a word, or one that is illegal or refused, at e8 m8.
 const fn one(name: &'static str, word: u32, answer: u64, registers: usize) -> Row {
     Row {
@@ -72,7 +77,7 @@ const fn one(name: &'static str, word: u32, answer: u64, registers: usize) -> Ro
 
 pub const ILLEGAL: Row = one("no word of ours (answer 2)", 0, 2, 512);
 
-pub const ROWS: [Row; 34] = [
+pub const ROWS: [Row; 37] = [
     row("vadd.vv e8 m8", op(0x00, 1, 16, 24, OPIVV, 8), 8, 8, 128),
     row("vadd.vv e8 m8, masked", op(0x00, 0, 16, 24, OPIVV, 8), 8, 8, 128),
     row("vadd.vv e32 m8", op(0x00, 1, 16, 24, OPIVV, 8), 32, 8, 32),
@@ -109,6 +114,9 @@ pub const ROWS: [Row; 34] = [
     one("vsetvli", 3 << 20 | 7 << 12 | 12 << 7 | 0x57, 0, 512),
     ILLEGAL,
     one("511 bytes of registers (answer 32)", op(0x00, 1, 16, 24, OPIVV, 8), 32, 511),
+    on_small(row("smaller board: vadd.vv e8 m8", op(0x00, 1, 16, 24, OPIVV, 8), 8, 8, 64)),
+    on_small(row("smaller board: vle8.v m8", access(0x07, 0, 0, 0, 0, 8), 8, 8, 64)),
+    on_small(row("smaller board: vmulh.vv e32 m8", op(0x27, 1, 16, 24, OPMVV, 8), 32, 8, 16)),
 ];
 
 // Words that the access check is for.
