@@ -19,7 +19,7 @@ pub struct CsrWrite {
 }
 
 // A read on a board.
-pub fn read_on(board: Board, control: Control, csr: u64) -> CsrRead
+fn read_on(board: Board, control: Control, csr: u64) -> CsrRead
     requires { ⌜ Valid board ⌝ }
     ensures { λ r. ⌜ r ≡ readOf board control csr ⌝ }
 {

@@ -55,7 +55,7 @@ fn field_write_of(board: Board, control: Control, csr: u64, value: u64) -> Field
 }
 
 // The write on a board: the record is lent, and one field of it is stored to (0x00F: two), and VS.
-pub fn write_on(board: Board, control: &mut Control, csr: u64, value: u64) -> Answer
+fn write_on(board: Board, control: &mut Control, csr: u64, value: u64) -> Answer
     requires { ⌜ Valid board ⌝ }
     ensures { λ r. ⌜
         (r ≡ writtenOf board (now (control .entry)) csr value .answer)
@@ -87,7 +87,7 @@ pub fn write_on(board: Board, control: &mut Control, csr: u64, value: u64) -> An
 }
 
 // The same for a caller that has the record by value: it is lent to `write_on` and handed back.
-pub fn written_on(board: Board, control: Control, csr: u64, value: u64) -> CsrWrite
+fn written_on(board: Board, control: Control, csr: u64, value: u64) -> CsrWrite
     requires { ⌜ Valid board ⌝ }
     ensures { λ r. ⌜ r ≡ writtenOf board control csr value ⌝ }
 {

@@ -21,7 +21,7 @@ use Rattle.plan.specs.Sources.{elementSources, sourcesOf}
 use Rattle.legality.specs.Legal.{readFits, operandsFit, elementsLegal, sourcesFit, kindLegal, legalOf}
 use Rattle.machine.specs.Machine.{turnOf, rejectionAt}
 use Rattle.examples.specs.Values.{supportedBelow}
-use Rattle.examples.specs.Boards.{Numbers, first, second, vlmaxTables, eew64Answers, productAnswers, Decides}
+use Rattle.examples.specs.Boards.{Numbers, baseNumbers, smallNumbers, vlmaxTables, eew64Answers, productAnswers, Decides}
 
 no-right : (p q : Bool) → q ≡ false → (p && q) ≡ false
 no-right true q e = e
@@ -56,14 +56,14 @@ module _ (b : Board) (n : Numbers) where
     products-are = products;
   }
 
-pub base-decides : Decides base first
+pub base-decides : Decides base baseNumbers
 unfolding refusalOf possibleOf typedWellOf supportedOf vlmaxOf turnOf turn clean decodeOf arithmeticOf resolvedOf sourceOf entryOf find
     listing widthOf wholeOf unitOf memoryOf rejectionAt planOf shapedOf secondOf readAt byMode movingOf legalOf kindLegal elementsLegal
     operandsFit readFits placedOf emul8Of mayOverlapOf sparesV0 sourcesFit mayShareOf sourcesOf elementSources
-base-decides = decided base first refl refl refl refl refl refl refl refl refl refl refl refl
+base-decides = decided base baseNumbers refl refl refl refl refl refl refl refl refl refl refl refl
 
-pub small-decides : Decides small second
+pub small-decides : Decides small smallNumbers
 unfolding refusalOf possibleOf typedWellOf supportedOf vlmaxOf turnOf turn clean decodeOf arithmeticOf resolvedOf sourceOf entryOf find
     listing widthOf wholeOf unitOf memoryOf rejectionAt planOf shapedOf secondOf readAt byMode movingOf legalOf kindLegal elementsLegal
     operandsFit readFits placedOf emul8Of mayOverlapOf sparesV0 sourcesFit mayShareOf sourcesOf elementSources
-small-decides = decided small second refl refl refl refl refl refl refl refl refl refl refl refl
+small-decides = decided small smallNumbers refl refl refl refl refl refl refl refl refl refl refl refl

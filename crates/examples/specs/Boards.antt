@@ -1,5 +1,4 @@
--- What a board decides: document 01 for the first board, document 02, A11, for the smaller one. Each number is an equation on the
--- definitions that the calls promise.
+-- What a board decides, in numbers: document 01 for the first board, document 02, A11, for the smaller one.
 use Prim.Native.Nat.{ℕ, _+_, _*_, _/_, _%_, _^_}
 use mathlib.Core.Path.{_≡_}
 use mathlib.Core.Bool.{true, false, not, _&&_, cond}
@@ -19,31 +18,32 @@ use Rattle.legality.specs.Legal.{startable}
 use Rattle.machine.specs.Machine.{turnOf}
 use Rattle.examples.specs.Values.{supportedBelow, blankOn}
 
--- the table of docs/READING.md
+-- the numbers of a board
 pub record Numbers : Type 0 where
   pub vlen : ℕ
   pub elen : ℕ
-  -- what CSR 0xC22 reads
+  -- "0xC22 vlenb (16)"; "vlenb is 8"
   pub vlenb : ℕ
-  -- bytes of the register file
+  -- "512 bytes of vector registers"; "256 bytes of registers"
   pub file : ℕ
-  -- how many values of vtype are supported
+  -- how many values of vtype are supported: "That is 88 values"
   pub types : ℕ
   -- VLMAX: a row each for SEW 8, 16, 32, 64, in it LMUL 1/8, 1/4, 1/2, 1, 2, 4, 8; 0 where the type is not supported
   pub vlmax : List (List ℕ)
-  -- vstart is below this
+  -- vstart is below this, or 36: "vstart above 127"; "36 reads vstart above 63"
   pub vstarts : ℕ
-  -- how many bits a write to vstart keeps
+  -- how many low bits a write to vstart keeps: "7, 1, 2 and 3 bits"; "vstart keeps 6 bits"
   pub kept : ℕ
-  -- vstart is illegal from bound / SEW on
+  -- "illegal if vstart is 1024/SEW or more"; "the bound of 1024/SEW becomes 512/SEW"
   pub bound : ℕ
-  -- what a load, a load and a store with indices, and a whole-register load of EEW 64 answer
+  -- "EEW 64 illegal also for indices and whole-register loads": what a load, an indexed load and store, and a whole-register load answer
   pub eew64 : List Answer
-  -- what the high products and vsmul answer at SEW 8, 16, 32, 64
+  -- "except vmulh, vmulhu, vmulhsu and vsmul at SEW 64"; "exist at each of its widths": what they answer at SEW 8, 16, 32, 64
   pub products : List Answer
 
-abbrev pub first : Numbers
-first = record {
+-- document 01
+abbrev pub baseNumbers : Numbers
+baseNumbers = record {
   vlen = 128;
   elen = 64;
   vlenb = 16;
@@ -61,9 +61,9 @@ first = record {
   products = Finished ∷ Finished ∷ Finished ∷ Illegal ∷ [];
 }
 
--- vtype of SEW 64 "can't be" there, which is 36
-abbrev pub second : Numbers
-second = record {
+-- document 02, A11. A vtype of SEW 64 is one that can't be there: 36
+abbrev pub smallNumbers : Numbers
+smallNumbers = record {
   vlen = 64;
   elen = 32;
   vlenb = 8;
@@ -81,6 +81,7 @@ second = record {
   products = Finished ∷ Finished ∷ Finished ∷ BadControl ∷ [];
 }
 
+-- VLMAX of a type, and 0 of one that is not supported
 abbrev pub vlmaxAt : Board → ℕ → ℕ
 vlmaxAt b v = cond (supportedOf b v) (vlmaxOf b v) 0
 
@@ -109,6 +110,7 @@ productAnswers b =
     map (λ (vtype : ℕ). answersOn b vtype (0x930C2457 ∷ 0x9B0C2457 ∷ 0x9F0C2457 ∷ 0x9F0C0457 ∷ []))
     (0x00 ∷ 0x08 ∷ 0x10 ∷ 0x18 ∷ [])
 
+-- these are the numbers of the board b, by the definitions that the calls promise
 pub record Decides (b : Board) (n : Numbers) : Type 0 where
   pub vlen-is : 8 * b .vlenb ≡ n .vlen
   pub elen-is : b .elen ≡ n .elen

@@ -37,7 +37,7 @@ fn no_part(answer: Answer) -> ViewPlace
 }
 
 // The place of a group on a board, in a file of so many bytes.
-pub fn place_on(board: Board, bytes: usize, first: usize, count: usize) -> ViewPlace
+fn place_on(board: Board, bytes: usize, first: usize, count: usize) -> ViewPlace
     requires { ⌜ Valid board ⌝ }
     ensures { λ r. ⌜ r ≡ placeOf board bytes first count ⌝ }
 {

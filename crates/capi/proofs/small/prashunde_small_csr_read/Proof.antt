@@ -1,7 +1,7 @@
 use borrow.Author.Needs.{needs}
 use Rattle.capi.proofs.Shown.{read-number, read-value}
-use Rattle.capi.proofs.prashunde_small_csr_read.Statement.{statement}
-use Rattle.capi.proofs.prashunde_small_csr_read.Tie as tie
+use Rattle.capi.proofs.small.prashunde_small_csr_read.Statement.{statement}
+use Rattle.capi.proofs.small.prashunde_small_csr_read.Tie as tie
 
 pub prashunde-small-csr-read-spec : {M : Type 1} → statement M
 prashunde-small-csr-read-spec =

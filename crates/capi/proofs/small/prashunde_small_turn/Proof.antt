@@ -1,7 +1,7 @@
 use borrow.Author.Needs.{needs}
 use Rattle.capi.proofs.Shown.{shown}
-use Rattle.capi.proofs.prashunde_small_turn.Statement.{statement}
-use Rattle.capi.proofs.prashunde_small_turn.Tie as tie
+use Rattle.capi.proofs.small.prashunde_small_turn.Statement.{statement}
+use Rattle.capi.proofs.small.prashunde_small_turn.Tie as tie
 
 pub prashunde-small-turn-spec : {M : Type 1} → statement M
 prashunde-small-turn-spec =
