@@ -6,7 +6,7 @@ use Prim.Native.Nat.{ℕ, zero, suc, _+_, _*_, _/_, _%_, _^_, _≤_, _<_}
 use native.Mathlib.Omega.{arith}
 use native.Mathlib.Nat.{zero-add, add-zero, suc-add, add-suc, add-comm, mul-suc, div-one}
 use lib.ListN.{length, getD, set, length-set}
-use lib.Seq.{getD-set-other}
+use lib.Seq.{getD-set-other, set-comm}
 use lib.Pow.{pow-add, shr-shr}
 use mir.Syntax.{w8, w64}
 use mir.Val.{Fits}
@@ -80,6 +80,20 @@ bytes-same l m a (suc n) h =
 pub bytes-apart : (l : List ℕ) (a m x b n : ℕ) → (a + m ≤ b) ⊎ (b + n ≤ a) → bytesAt (withBytes l a m x) b n ≡ bytesAt l b n
 bytes-apart l a m x b n h =
     bytes-same (withBytes l a m x) l b n (λ k u v. withBytes-other l a m x k (⊎-elim (λ w. inl (omega arith)) (λ w. inr (omega arith)) h))
+
+-- ---- one byte that is set, k, where it is none of the n bytes from a
+
+pub bytes-set : (l : List ℕ) (k y a n : ℕ) → (a + n ≤ k) ⊎ (k < a) → bytesAt (set l k y) a n ≡ bytesAt l a n
+bytes-set l k y a n h =
+    bytes-same (set l k y) l a n (λ j u v. getD-set-other l k j y 0 (⊎-elim (λ w. omega arith) (λ w. omega arith) h))
+
+-- the two stores in either order
+pub withBytes-set : (l : List ℕ) (k y a n x : ℕ) → (a + n ≤ k) ⊎ (k < a) → withBytes (set l k y) a n x ≡ set (withBytes l a n x) k y
+unfolding withBytes
+withBytes-set l k y a zero x h = refl
+withBytes-set l k y a (suc n) x h =
+    ap (λ (m : List ℕ). withBytes m (suc a) n (x / 256)) (set-comm l k a y (x % 256) (⊎-elim (λ w. omega arith) (λ w. omega arith) h))
+    ∙ withBytes-set (set l a (x % 256)) k y (suc a) n (x / 256) (⊎-elim (λ w. inl (omega arith)) (λ w. inr (omega arith)) h)
 
 -- ---- a list of bytes: what a slice of u8 is
 

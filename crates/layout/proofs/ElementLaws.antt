@@ -1,5 +1,5 @@
 -- Elements of the register file: where they lie, and what a write leaves of the others.
-use mathlib.Core.Path.{_≡_, ap}
+use mathlib.Core.Path.{_≡_, sym, ap, _∙_}
 use mathlib.Core.Logic.{_⊎_, inl, inr, ⊎-elim, _≢_}
 use mathlib.Core.Bool.{cond}
 use mathlib.Core.List.{List}
@@ -10,12 +10,13 @@ use native.Mathlib.Decide.{ℕ-discrete, decLt}
 use lib.ListN.{length, getD, set, length-set}
 use lib.Dec.{T, eqb}
 use lib.Pow.{pow-mono}
-use lib.Seq.{getD-set-same, getD-set-other, set-out}
+use lib.Seq.{getD-set-same, getD-set-other, set-out, set-comm}
 use borrow.Author.Tests.{eq-eqb, ne-eqb, eqb-true}
 use Rattle.laws.proofs.Chain.{either}
 use Rattle.layout.specs.Layout.{bytesAt, withBytes, bitAt, withBitAt, elementAt, withElement, bitOf, withBit, elementWidth, Inside}
 use Rattle.layout.proofs.WidthLaws.{whole-bytes, shape}
-use Rattle.layout.proofs.BytesLaws.{length-withBytes, withBytes-other, bytes-same, bytes-apart, Bytes, bytes-lt}
+use Rattle.layout.proofs.BytesLaws.{length-withBytes, withBytes-other, bytes-same, bytes-apart, Bytes, bytes-lt, bytes-set}
+use Rattle.layout.proofs.BytesLaws.{withBytes-set}
 use Rattle.layout.proofs.BitLaws.{bit-other}
 
 -- ---- an element of one bit, and one of several bytes
@@ -142,3 +143,34 @@ apart vlenb file reg eew i x q eew′ j t t′ =
     several-several n m h =
         simp (with-several, at-several) (bytes-apart file (vlenb * reg + i * n) n x (vlenb * q + j * m) m
         (⊎-elim (λ w. inl (omega arith)) (λ w. inr (omega arith)) h))
+
+-- ---- one byte of the file that is set, k, where it is none of the element's: read and written before or after, the element is the same
+
+abbrev pub Clear : (vlenb reg eew i k : ℕ) → Type 0
+Clear vlenb reg eew i k = (8 * (vlenb * reg) + i * eew + eew ≤ 8 * k) ⊎ (8 * k + 8 ≤ 8 * (vlenb * reg) + i * eew)
+
+pub element-set : (vlenb : ℕ) (file : List ℕ) (k y reg eew i : ℕ) → T (elementWidth eew) → Clear vlenb reg eew i k
+    → elementAt vlenb (set file k y) reg eew i ≡ elementAt vlenb file reg eew i
+unfolding elementAt bitAt
+element-set vlenb file k y reg eew i t =
+    shape (λ e. Clear vlenb reg e i k → elementAt vlenb (set file k y) reg e i ≡ elementAt vlenb file reg e i)
+    (λ h. ap (λ (z : ℕ). bitOf z (i % 8)) (getD-set-other file k (vlenb * reg + i / 8) y 0
+    (⊎-elim (λ w. omega arith) (λ w. omega arith) h)))
+    (λ n s h. simp at-several (bytes-set file k y (vlenb * reg + i * n) n (⊎-elim (λ w. inl (omega arith)) (λ w. inr (omega arith)) h)))
+    eew t
+
+bit-set : (l : List ℕ) (k y a i x : ℕ) → k ≢ a + i / 8 → withBitAt (set l k y) a i x ≡ set (withBitAt l a i x) k y
+unfolding withBitAt
+bit-set l k y a i x d =
+    ap (λ (z : ℕ). set (set l k y) (a + i / 8) (withBit z (i % 8) (x % 2))) (getD-set-other l k (a + i / 8) y 0 (λ e. d (sym e)))
+    ∙ set-comm l k (a + i / 8) y _ d
+
+pub withElement-set : (vlenb : ℕ) (file : List ℕ) (k y reg eew i x : ℕ) → T (elementWidth eew) → Clear vlenb reg eew i k
+    → withElement vlenb (set file k y) reg eew i x ≡ set (withElement vlenb file reg eew i x) k y
+unfolding withElement
+withElement-set vlenb file k y reg eew i x t =
+    shape (λ e. Clear vlenb reg e i k → withElement vlenb (set file k y) reg e i x ≡ set (withElement vlenb file reg e i x) k y)
+    (λ h. bit-set file k y (vlenb * reg) i x (⊎-elim (λ w. omega arith) (λ w. omega arith) h))
+    (λ n s h. simp with-several
+    (withBytes-set file k y (vlenb * reg + i * n) n x (⊎-elim (λ w. inl (omega arith)) (λ w. inr (omega arith)) h)))
+    eew t

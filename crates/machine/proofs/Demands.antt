@@ -99,7 +99,7 @@ pub apart : {A : Type 0} (P : A → Bool) (a c : A) → P a ≡ true → P c ≡
 apart P a c h k e = let f : P a ≡ P c = ap P e in let z : _≡_ {A = ℕ} 0 1 = cc in omega arith
 
 module _ (b : Board) (p : Plan) where
-  abbrev J : Semantics
+  abbrev pub J : Semantics
   J = semanticsOf b p
 
   -- the turn and the point of the theory of turns that rights and an allowance, and a state, make
@@ -282,7 +282,7 @@ put-plan b i p (toMemory a n x) s h = h
 
 module _ (b : Board) (p : Plan) where
   -- the state that a turn with other rights gets after a turn of n from s: the point that this one left
-  abbrev following : ℕ → State → List ℕ → State
+  abbrev pub following : ℕ → State → List ℕ → State
   following n s r = withRights r (planTurn b p n s .after)
 
   -- the point of a state with a VS in use as Dirty, which is how a turn leaves it, and a turn from there
@@ -321,7 +321,7 @@ module _ (b : Board) (p : Plan) where
       ∙ ap at (marked-settled b p (turnWith b p (s .rights) n) (pointOf b p s))
       ∙ sym (ap (λ (e : TurnEnd (J b p)). e .after) (ran-settled n s))
 
-  following-plan : (word n : ℕ) (s : State) (r : List ℕ) → planAt b word s ≡ p → (ranOf b p n s .ending ≡ finished → ⊥)
+  pub following-plan : (word n : ℕ) (s : State) (r : List ℕ) → planAt b word s ≡ p → (ranOf b p n s .ending ≡ finished → ⊥)
       → planAt b word (following n s r) ≡ p
   following-plan word n s r e u =
       let q : Point (J b p) = ranOf b p n s .after in
@@ -377,7 +377,7 @@ opens r r′ t (inl e) = rw e (opened-refl r)
 opens r r′ t (inr h) = h .1
 
 -- one turn more in front
-abbrev joined : Outcome → Outcome → Outcome
+abbrev pub joined : Outcome → Outcome → Outcome
 joined o q = record { answer = q .answer; passed = o .passed + q .passed; place = q .place; after = q .after }
 
 refused-again : {A : Type 0} (a : Answer) (r r′ : List ℕ) → refusalOnly a ≡ true → (r′ ≡ r → A)
@@ -386,7 +386,7 @@ refused-again a r r′ k f (inl e) = f e
 refused-again a r r′ k f (inr h) = absurd (apart not (isTrap a) true (both-right (changesNothing a) (not (isTrap a)) k) refl (h .0))
 
 module _ (b : Board) (word : ℕ) where
-  turn-is : (p : Plan) (n : ℕ) (s : State) → planAt b word s ≡ p → turnOf b word n s ≡ planTurn b p n s
+  pub turn-is : (p : Plan) (n : ℕ) (s : State) → planAt b word s ≡ p → turnOf b word n s ≡ planTurn b p n s
   unfolding turnOf
   turn-is p n s e = ap (λ (q : Plan). planTurn b q n s) e
 

@@ -108,7 +108,7 @@ all-keep vlenb P f (w ∷ l) s h = all-keep vlenb P f l (putOf vlenb w s) (f w s
 
 -- ---- what an element may write: its element of fields of the destination, or memory where it is a store
 
-data Wrote (d : Group) (j : ℕ) : Bool → List Write → Type 0 where
+pub data Wrote (d : Group) (j : ℕ) : Bool → List Write → Type 0 where
   nothing : (t : Bool) → Wrote d j t []
   in-registers : (k : ℕ) (g : Group) (x : Element) (l : List Write) → k ≤ d .nf → g .reg ≡ fieldGroup d k .reg → g .eew ≡ d .eew
       → Wrote d j true l → Wrote d j true (toRegisters g j x ∷ l)
@@ -144,7 +144,7 @@ acting-wrote b r s e j l (A.Transfer t) h =
     rw (write-same _ l (granted-write (fieldsAccess r (length (s .memory)) (t .store) a (t .bytes) 0 (nfields (e .dest))) _ l h))
     (fields-wrote (b .vlenb) (s .registers) (s .memory) (e .dest) (t .bytes) j a (t .store) 0 (nfields (e .dest)) (omega arith))
 
-effect-wrote : (b : Board) (r : List ℕ) (s : Core) (e : Elementwise) (j : ℕ) (l : List Write) → effectOf b r s e j ≡ write l
+pub effect-wrote : (b : Board) (r : List ℕ) (s : Core) (e : Elementwise) (j : ℕ) (l : List Write) → effectOf b r s e j ≡ write l
     → Wrote (e .dest) j (writesRegisters (e .action)) l
 unfolding effectOf
 effect-wrote b r s e j l = go (activeOf (b .vlenb) (s .registers) (e .masked) j)
@@ -156,7 +156,7 @@ effect-wrote b r s e j l = go (activeOf (b .vlenb) (s .registers) (e .masked) j)
 -- ---- what a permutation makes of the elements of vs2
 
 -- two ways to read vs2 that agree where element i may read it give the same
-permuted-same : (op : PermutationOp) (sew vl : ℕ) (f g : ℕ → ℕ) (x i : ℕ) → ((k : ℕ) → (strictly op ≡ true) ⊎ (i ≤ k) → f k ≡ g k)
+pub permuted-same : (op : PermutationOp) (sew vl : ℕ) (f g : ℕ → ℕ) (x i : ℕ) → ((k : ℕ) → (strictly op ≡ true) ⊎ (i ≤ k) → f k ≡ g k)
     → permutedOf op sew vl f x i ≡ permutedOf op sew vl g x i
 permuted-same Vid sew vl f g x i h = refl
 permuted-same Vslideup sew vl f g x i h = h _ (inl refl)

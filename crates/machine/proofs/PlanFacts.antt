@@ -7,6 +7,7 @@ use mathlib.Core.Bool.{Bool, true, false, not, _||_, cond}
 use native.Mathlib.Omega.{arith}
 use native.Mathlib.Nat.{div-le-of-le-mul, mul-le-mul-right, le-refl}
 use lib.Dec.{T, eqb, lit≤}
+use borrow.Author.Tests.{eq-eqb}
 use Rattle.laws.proofs.Apart.{both-left, both-right, or-cases}
 use Rattle.laws.proofs.Chain.{either}
 use Rattle.operation.specs.declared.Size.{Size}
@@ -17,7 +18,7 @@ use Rattle.operation.specs.Shape.{shapeOf}
 use Rattle.control.specs.declared.Board.{Board}
 use Rattle.control.specs.declared.Control.{Control}
 use Rattle.control.specs.Board.{Valid}
-use Rattle.control.specs.Vtype.{sewOf, vlmaxOf, supportedOf}
+use Rattle.control.specs.Vtype.{vill, sewOf, vlmaxOf, supportedOf}
 use Rattle.control.proofs.Laws.{sew-ge, vlmax-le, typed-well-apart, Possible}
 use Rattle.decode.specs.declared.Arithmetic.{Arithmetic}
 use Rattle.decode.specs.declared.Access.{Access}
@@ -28,6 +29,9 @@ use Rattle.decode.specs.declared.Mode.the-variants as M
 use Rattle.decode.specs.declared.PermutationOp.{PermutationOp}
 use Rattle.decode.specs.declared.PermutationOp.the-variants.{Vid, Vslideup, Vslidedown, Vslide1up, Vslide1down, Vrgather, Vrgatherei16}
 use Rattle.decode.specs.declared.PermutationInstruction.{PermutationInstruction}
+use Rattle.decode.specs.declared.ReductionOp.{ReductionOp}
+use Rattle.decode.specs.declared.ReductionOp.the-variants.{Vredsum, Vredand, Vredor, Vredxor, Vredminu, Vredmin, Vredmaxu, Vredmax}
+use Rattle.decode.specs.declared.ReductionOp.the-variants.{Vwredsumu, Vwredsum}
 use Rattle.decode.specs.declared.Instruction.{Instruction}
 use Rattle.decode.specs.declared.Instruction.the-variants as I
 use Rattle.decode.specs.Fields.{ModeFits, AccessFits, Fits}
@@ -47,7 +51,7 @@ use Rattle.plan.proofs.AccessLaws.{one-of, eew-low, whole-le}
 use Rattle.plan.specs.declared.Plan.{Plan}
 use Rattle.plan.specs.declared.Plan.the-variants as P
 use Rattle.plan.specs.Plan.{groupAt, groupsAt, readAt, groupOf, secondOf, v0Read, shapedOf, computingOf, movingOf, byMode, planOf}
-use Rattle.plan.specs.Plan.{indexOf, movedElements, movedBy, permutingOf}
+use Rattle.plan.specs.Plan.{indexOf, movedElements, movedBy, permutingOf, scalarEew}
 use Rattle.legality.specs.Legal.{overlapFits, readFits, writesRegisters, strictly, isStrict, isBit, operandsFit}
 use Rattle.machine.specs.Effect.{valueOf}
 use Rattle.machine.proofs.Geometry.{Power, power-of, product-power, quotient-power, quotient-low, sew-power, Extent, mask-extent}
@@ -286,6 +290,14 @@ undisturbed b v e w y l =
 pub supported : (b : Board) (c : Control) → Possible b c → 0 < c .vl → (supportedOf b (c .vtype) ≡ true) × (c .vl ≤ vlmaxOf b (c .vtype))
 supported b c t l = ⊎-elim (λ q. absurd (omega arith)) (λ q. q) (typed-well-apart b c (t .typed))
 
+-- and where vill is clear
+pub typed-supported : (b : Board) (c : Control) → Possible b c → not (eqb (c .vtype) vill) ≡ true
+    → (supportedOf b (c .vtype) ≡ true) × (c .vl ≤ vlmaxOf b (c .vtype))
+typed-supported b c t n = ⊎-elim (λ q. absurd (not-vill (q .0) n)) (λ q. q) (typed-well-apart b c (t .typed))
+  where
+    not-vill : c .vtype ≡ vill → not (eqb (c .vtype) vill) ≡ true → ⊥
+    not-vill e h = subst T (sym (rw (eq-eqb (c .vtype) vill e) at h)) tt
+
 -- element i of a group of SEW bits, below vl
 pub element-inside : (b : Board) (c : Control) → Valid b → Possible b c → (reg i : ℕ)
     → placedOf (b .elen) (groupAt (c .vtype) (sewOf (c .vtype)) reg) ≡ true → reg < 32 → i < c .vl
@@ -441,6 +453,30 @@ module _ (b : Board) (x : List ℕ) (c : Control) (a : Access) (w : Valid b) (t 
   mode-undisturbed (M.Indexed k) n h l r = undisturbed b (c .vtype) _ w (indexed-typed k l) (legal-facts (b .elen) _ h r)
   mode-undisturbed M.MaskBytes n h l r = alone _ _ _ _ tt (mode-end M.MaskBytes n) h r
   mode-undisturbed (M.Whole k) n h l r = alone _ _ _ _ (eew-width a f) (mode-end (M.Whole k) n) h r
+
+-- ---- the scalars of a reduction: of SEW bits, or twice as wide
+
+pub record Wide (n : ℕ) : Type 0 where
+  pub power : Power n
+  pub low : 8 ≤ n
+
+single : (v : ℕ) → Wide (sewOf v)
+single v = record { power = sew-power v; low = sew-ge v }
+
+double : (v : ℕ) → Wide (2 * sewOf v)
+double v = record { power = product-power 2 (sewOf v) (power-of 1) (sew-power v); low = omega (arith, sew-ge v) }
+
+pub scalar-wide : (v : ℕ) (op : ReductionOp) → Wide (scalarEew op (sewOf v))
+scalar-wide v Vredsum = single v
+scalar-wide v Vredand = single v
+scalar-wide v Vredor = single v
+scalar-wide v Vredxor = single v
+scalar-wide v Vredminu = single v
+scalar-wide v Vredmin = single v
+scalar-wide v Vredmaxu = single v
+scalar-wide v Vredmax = single v
+scalar-wide v Vwredsumu = double v
+scalar-wide v Vwredsum = double v
 
 -- ---- the plan of a decoded word
 

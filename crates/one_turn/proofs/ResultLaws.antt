@@ -3,11 +3,9 @@ use Prim.Native.Nat.{ℕ, _*_, _≤_}
 use mathlib.Core.Path.{_≡_, refl, sym, ap, _∙_, subst}
 use mathlib.Core.Bool.{Bool, true, false, not, _&&_, _||_}
 use mathlib.Core.List.{List}
-use mathlib.Core.Logic.{⊎-elim}
 use native.Mathlib.Omega.{arith}
 use lib.ListN.{length}
 use lib.Dec.{T, eqb}
-use borrow.Author.Tests.{eq-eqb}
 use Rattle.laws.proofs.Apart.{both-left, both-right, apart}
 use Rattle.control.specs.declared.Board.{Board}
 use Rattle.control.specs.declared.Control.{Control}
@@ -15,7 +13,7 @@ use Rattle.control.specs.declared.Avl.{Avl}
 use Rattle.control.specs.declared.Avl.the-variants.{To, Keep}
 use Rattle.control.specs.Vtype.{vill, sewOf, supportedOf}
 use Rattle.control.specs.Control.{withVstart, setOf}
-use Rattle.control.proofs.Laws.{Possible, possible-apart, typed-well-apart, sew-ge}
+use Rattle.control.proofs.Laws.{Possible, possible-apart, sew-ge}
 use Rattle.decode.specs.declared.Setting.{Setting}
 use Rattle.decode.specs.declared.MaskOp.{MaskOp}
 use Rattle.decode.specs.declared.MaskInstruction.{MaskInstruction}
@@ -38,6 +36,7 @@ use Rattle.machine.specs.State.{Core}
 use Rattle.machine.specs.OneTurn.{withScalar, avlFrom, typeFrom, settingResult, maskResult, reducedFile, packedFile, scalarMoveResult}
 use Rattle.machine.specs.OneTurn.{oneTurnResult}
 use Rattle.machine.proofs.Geometry.{sew-power, register-inside}
+use Rattle.machine.proofs.PlanFacts.{typed-supported}
 use Rattle.execute.specs.Step.{coreAt}
 use Rattle.reduction.specs.Reducible.{Reducible}
 use Rattle.reduction.proofs.Reductions.{reducible}
@@ -101,11 +100,7 @@ every-move b x c (I.Memory a) = tt
 -- where vill is clear, at most ELEN
 typed-sew : (b : Board) (c : Control) → Possible b c → not (eqb (c .vtype) vill) ≡ true → sewOf (c .vtype) ≤ b .elen
 unfolding supportedOf
-typed-sew b c t n =
-    ⊎-elim (λ q. absurd (not-vill (q .0) n)) (λ q. let s = q .0 in search apart) (typed-well-apart b c (t .typed))
-  where
-    not-vill : c .vtype ≡ vill → not (eqb (c .vtype) vill) ≡ true → ⊥
-    not-vill e h = subst T (sym (rw (eq-eqb (c .vtype) vill e) at h)) tt
+typed-sew b c t n = let s = typed-supported b c t n .0 in search apart
 
 -- ---- in the arm of an instruction that takes one turn
 

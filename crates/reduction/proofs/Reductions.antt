@@ -1,5 +1,5 @@
 -- A reduction that is legal: its operator, its elements and its scalars are such as the fold relies on.
-use Prim.Native.Nat.{ℕ, _*_, _≤_}
+use Prim.Native.Nat.{_*_, _≤_}
 use mathlib.Core.Path.{_≡_, refl, subst}
 use mathlib.Core.Bool.{true}
 use mathlib.Core.List.{List}
@@ -10,11 +10,7 @@ use Rattle.laws.proofs.Apart.{both-left, both-right}
 use Rattle.control.specs.declared.Board.{Board}
 use Rattle.control.specs.declared.Control.{Control}
 use Rattle.control.specs.Board.{Valid}
-use Rattle.control.specs.Vtype.{sewOf}
 use Rattle.control.proofs.Laws.{Possible, sew-ge}
-use Rattle.decode.specs.declared.ReductionOp.{ReductionOp}
-use Rattle.decode.specs.declared.ReductionOp.the-variants.{Vredsum, Vredand, Vredor, Vredxor, Vredminu, Vredmin, Vredmaxu, Vredmax}
-use Rattle.decode.specs.declared.ReductionOp.the-variants.{Vwredsumu, Vwredsum}
 use Rattle.decode.specs.declared.ReductionInstruction.{ReductionInstruction}
 use Rattle.decode.specs.declared.Instruction.{Instruction}
 use Rattle.decode.specs.declared.Instruction.the-variants as I
@@ -24,35 +20,11 @@ use Rattle.plan.specs.declared.Reduction.{Reduction}
 use Rattle.plan.specs.declared.OneTurn.the-variants as O
 use Rattle.plan.specs.declared.Plan.{Plan}
 use Rattle.plan.specs.declared.Plan.the-variants as P
-use Rattle.plan.specs.Plan.{scalarEew, reducingOf, planOf}
+use Rattle.plan.specs.Plan.{reducingOf, planOf}
 use Rattle.legality.specs.Legal.{startable, reductionPlaced, oneTurnLegal}
-use Rattle.machine.proofs.Geometry.{Power, power-of, product-power, sew-power, bit-inside, register-inside}
-use Rattle.machine.proofs.PlanFacts.{element-inside}
+use Rattle.machine.proofs.Geometry.{bit-inside, register-inside}
+use Rattle.machine.proofs.PlanFacts.{scalar-wide, element-inside}
 use Rattle.reduction.specs.Reducible.{Reducible}
-
--- ---- the scalars: of SEW bits, or twice as wide
-
-record Wide (n : ℕ) : Type 0 where
-  power : Power n
-  low : 8 ≤ n
-
-single : (v : ℕ) → Wide (sewOf v)
-single v = record { power = sew-power v; low = sew-ge v }
-
-double : (v : ℕ) → Wide (2 * sewOf v)
-double v = record { power = product-power 2 (sewOf v) (power-of 1) (sew-power v); low = omega (arith, sew-ge v) }
-
-scalars : (v : ℕ) (op : ReductionOp) → Wide (scalarEew op (sewOf v))
-scalars v Vredsum = single v
-scalars v Vredand = single v
-scalars v Vredor = single v
-scalars v Vredxor = single v
-scalars v Vredminu = single v
-scalars v Vredmin = single v
-scalars v Vredmaxu = single v
-scalars v Vredmax = single v
-scalars v Vwredsumu = double v
-scalars v Vwredsum = double v
 
 -- ---- the elements
 
@@ -75,7 +47,7 @@ module _ (b : Board) (c : Control) (w : Valid b) (t : Possible b c) where
       → Reducible (32 * b .vlenb) (b .vlenb) (reducingOf (c .vtype) a) (c .vl)
   unfolding reducingOf
   reducing-reducible a f h =
-      let s = scalars (c .vtype) (a .op) in
+      let s = scalar-wide (c .vtype) (a .op) in
       let l = legal-facts b c (reducingOf (c .vtype) a) h in
       record {
         elements = λ i k. record {

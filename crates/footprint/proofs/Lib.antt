@@ -1,0 +1,8 @@
+pub mod Spared
+pub mod Lying
+pub mod Elements
+pub mod Untouched
+pub mod Later
+pub mod Results
+pub mod Turns
+pub mod Changes
