@@ -5,3 +5,4 @@ pub mod ReductionCases
 pub mod PermutationCases
 pub mod TrapCases
 pub mod Boards
+pub mod ChangeCases
