@@ -1,12 +1,11 @@
 -- A FINISHED RUN WITH CHANGES BETWEEN ITS TURNS IS THE UNCUT RUN, FOLLOWED BY THE CHANGES. Each change is moved to the front of the turns
 -- before it; what is left is demand 3, from the first state with all changes made; and they are moved to the end of that uncut turn.
-use Prim.Native.Nat.{ℕ, _+_, _-_, _^_, _<_}
-use mathlib.Core.Path.{_≡_, refl, sym, ap, _∙_, subst}
+use Prim.Native.Nat.{ℕ, _-_, _^_, _<_}
+use mathlib.Core.Path.{_≡_, refl, sym, ap, ap₂, _∙_, subst}
 use mathlib.Core.Logic.{_⊎_, inl, inr}
-use mathlib.Core.Bool.{Bool, true, false, _&&_}
+use mathlib.Core.Bool.{true, false, _&&_}
 use mathlib.Core.List.{List, [], _∷_, _++_}
 use mathlib.Core.Option.{Option, none, some}
-use native.Mathlib.Omega.{arith}
 use native.Mathlib.Nat.{le-refl}
 use Rattle.answer.specs.declared.Answer.{Answer}
 use Rattle.answer.specs.declared.Answer.the-variants.{Finished, Paused, Illegal, LoadMisaligned, LoadAccess, StoreMisaligned, StoreAccess}
@@ -16,29 +15,27 @@ use Rattle.control.specs.Board.{Valid, base, small}
 use Rattle.control.proofs.Laws.{possible-apart, base-valid, small-valid}
 use Rattle.decode.specs.Word.{decodeOf}
 use Rattle.decode.proofs.Fields.{fits}
-use Rattle.plan.specs.declared.Elementwise.{Elementwise}
 use Rattle.plan.specs.declared.Plan.{Plan}
 use Rattle.plan.specs.declared.Plan.the-variants as P
 use Rattle.plan.specs.Sources.{sourcesOf}
-use Rattle.legality.proofs.LegalLaws.{elements-of-legal}
 use Rattle.turn_theory.specs.Turn.{finished}
 use Rattle.turn_theory.proofs.Laws.{turn-rejected}
 use Rattle.machine.specs.State.{State, Outcome, withRights, coreOf}
 use Rattle.machine.specs.Machine.{rejectionAt, Opened, semanticsOf, answerOf, ranOf, outcomeOf, planTurn, planAt, turnOf}
 use Rattle.machine.specs.Demands.{isTrap, changesNothing, untouched, Next, turnsOf, lastRights, Between, Proceeds}
 use Rattle.machine.proofs.PlanFacts.{plan-sound}
-use Rattle.machine.proofs.Lawful.{facts, elements-fit}
+use Rattle.machine.proofs.Lawful.{facts}
 use Rattle.machine.proofs.Demands.{rejection-rejects, Rejecting, apart, turnWith, pointOf, following-plan, joined, demand-3}
 use Rattle.footprint.specs.Footprint.{anyOf, destinationsOf, scalarsOf}
 use Rattle.footprint.specs.Changes.{Change, changedRegisters, withChange, withChanges, touches, Resumed, resumedState, resumedTurns}
 use Rattle.footprint.specs.Changes.{ProceedsResumed, allChanges, turnsAlone, withoutChanges, followedBy, ChangesFollow}
 use Rattle.footprint.proofs.Spared.{or-none, Avoids}
-use Rattle.footprint.proofs.Lying.{PlanLies}
+use Rattle.footprint.proofs.Contained.{PlanContained}
 use Rattle.footprint.proofs.Elements.{ElementSpared, active-kept}
 use Rattle.footprint.proofs.Untouched as Untouched
-use Rattle.footprint.proofs.Untouched.{Untouched, element-spared, AvoidsScalars, plan-kept}
+use Rattle.footprint.proofs.Untouched.{Untouched, AvoidsScalars}
 use Rattle.footprint.proofs.Later.{PlanLater, same-later, untouched-later, turn-onward}
-use Rattle.footprint.proofs.Turns.{rejection-same, changedOutcome, plan-same, lies-at, turn-kept}
+use Rattle.footprint.proofs.Turns.{rejection-same, elements-spared, plan-same, contained-at, turn-kept}
 
 -- ---- changes and rights
 
@@ -74,6 +71,24 @@ nothing-traps BadRights = refl
 nothing-traps BadControl = refl
 nothing-traps NoGroup = refl
 
+-- ---- all changes of a list
+
+abbrev All : (Change → Type 0) → List Change → Type 0
+All P [] = Unit {0}
+All P (c ∷ cs) = P c × All P cs
+
+all-first : (P : Change → Type 0) (cs ds : List Change) → All P (cs ++ ds) → All P cs
+all-first P [] ds h = tt
+all-first P (c ∷ cs) ds h = (h .0, all-first P cs ds (h .1))
+
+all-rest : (P : Change → Type 0) (cs ds : List Change) → All P (cs ++ ds) → All P ds
+all-rest P [] ds h = h
+all-rest P (c ∷ cs) ds h = all-rest P cs ds (h .1)
+
+all-map : (P Q : Change → Type 0) → ((c : Change) → P c → Q c) → (cs : List Change) → All P cs → All Q cs
+all-map P Q f [] h = tt
+all-map P Q f (c ∷ cs) h = (f c (h .0), all-map P Q f cs (h .1))
+
 module _ (b : Board) (w : Valid b) (word : ℕ) where
   -- the answer that rejects the word at a state
   abbrev rejectionIn : State → Option Answer
@@ -88,27 +103,17 @@ module _ (b : Board) (w : Valid b) (word : ℕ) where
   -- ---- changes that are not touched
 
   abbrev AllUntouched : State → List Change → Type 0
-  AllUntouched s [] = Unit {0}
-  AllUntouched s (c ∷ cs) = Untouched b word s c × AllUntouched s cs
+  AllUntouched s = All (Untouched b word s)
+
+  all-later : (s s′ : State) → ((c : Change) → Untouched b word s c → Untouched b word s′ c) → (cs : List Change)
+      → AllUntouched s cs → AllUntouched s′ cs
+  all-later s s′ = all-map (Untouched b word s) (Untouched b word s′)
 
   all-untouched : (s : State) (cs : List Change) → anyOf (touches b word s) cs ≡ false → AllUntouched s cs
   all-untouched s [] h = tt
   all-untouched s (c ∷ cs) h =
       let q = or-none (touches b word s c) (anyOf (touches b word s) cs) h in
       (Untouched.untouched b word s c (q .0), all-untouched s cs (q .1))
-
-  all-first : (s : State) (cs ds : List Change) → AllUntouched s (cs ++ ds) → AllUntouched s cs
-  all-first s [] ds h = tt
-  all-first s (c ∷ cs) ds h = (h .0, all-first s cs ds (h .1))
-
-  all-rest : (s : State) (cs ds : List Change) → AllUntouched s (cs ++ ds) → AllUntouched s ds
-  all-rest s [] ds h = h
-  all-rest s (c ∷ cs) ds h = all-rest s cs ds (h .1)
-
-  all-later : (s s′ : State) → ((c : Change) → Untouched b word s c → Untouched b word s′ c) → (cs : List Change)
-      → AllUntouched s cs → AllUntouched s′ cs
-  all-later s s′ f [] h = tt
-  all-later s s′ f (c ∷ cs) h = (f c (h .0), all-later s s′ f cs (h .1))
 
   -- under other rights
   rights-later : (s : State) (r : List ℕ) (cs : List Change) → AllUntouched s cs → AllUntouched (withRights r s) cs
@@ -124,49 +129,34 @@ module _ (b : Board) (w : Valid b) (word : ℕ) where
       ∙ rejection-same b (planAt b word s) (s .rights) c (coreOf s) (s .control .vstart)
 
   -- what a word names does not go by the state
-  abbrev NoneNamed : List Change → Type 0
-  NoneNamed [] = Unit {0}
-  NoneNamed (c ∷ cs) = AvoidsScalars c (scalarsOf (decodeOf word)) × NoneNamed cs
+  abbrev Unnamed : Change → Type 0
+  Unnamed c = AvoidsScalars c (scalarsOf (decodeOf word))
 
-  none-named : (s : State) (cs : List Change) → AllUntouched s cs → NoneNamed cs
-  none-named s [] h = tt
-  none-named s (c ∷ cs) h = (h .0 .scalars, none-named s cs (h .1))
+  none-named : (s : State) (cs : List Change) → AllUntouched s cs → All Unnamed cs
+  none-named s = all-map (Untouched b word s) Unnamed (λ c u. u .scalars)
 
-  named-first : (cs ds : List Change) → NoneNamed (cs ++ ds) → NoneNamed cs
-  named-first [] ds h = tt
-  named-first (c ∷ cs) ds h = (h .0, named-first cs ds (h .1))
-
-  named-rest : (cs ds : List Change) → NoneNamed (cs ++ ds) → NoneNamed ds
-  named-rest [] ds h = h
-  named-rest (c ∷ cs) ds h = named-rest cs ds (h .1)
-
-  rejection-changes : (s : State) (cs : List Change) → NoneNamed cs → rejectionIn (withChanges cs s) ≡ rejectionIn s
+  rejection-changes : (s : State) (cs : List Change) → All Unnamed cs → rejectionIn (withChanges cs s) ≡ rejectionIn s
   unfolding withChanges
   rejection-changes s [] h = refl
   rejection-changes s (c ∷ cs) h = rejection-changes (withChange c s) cs (h .1) ∙ rejection-changed s c (h .0)
 
   module _ (s : State) (h : rejectionIn s ≡ none) (d : Change) where
-    plan-later : (p : Plan) → rejectionAt b p (s .rights) (coreOf s) (s .control .vstart) ≡ none → PlanLies b (s .control) p
+    plan-later : (p : Plan) → rejectionAt b p (s .rights) (coreOf s) (s .control .vstart) ≡ none → PlanContained b (s .control) p
         → Avoids (b .vlenb) d (sourcesOf p ++ destinationsOf p)
         → PlanLater (b .vlenb) p (s .control .vstart) (s .registers) (changedRegisters d (s .registers))
-    unfolding sourcesOf
     plan-later P.Illegal q y a = tt
     plan-later (P.OneTurn t) q y a = tt
-    plan-later (P.Elements e) q y a = record {
-      active = λ i l u. active-kept (b .vlenb) d (e .masked) i (s .registers) (spared i u .mask);
-      offset = λ i l u. spared i u .vs2 (s .registers);
-    }
-      where
-        spared : (i : ℕ) → i < e .end → ElementSpared (b .vlenb) d e i
-        spared i u =
-            let f = facts b (P.Elements e) (s .rights) (coreOf s) (s .control .vstart) q in
-            element-spared b (w .some) d e i
-            (y (elements-fit b (s .control) e (elements-of-legal b (s .control) e (f .legal))) (omega arith)) a u
+    plan-later (P.Elements e) q y a =
+        let spared : (i : ℕ) → i < e .end → ElementSpared (b .vlenb) d e i = elements-spared b (w .some) d s e q y a in
+        record {
+          active = λ i l u. active-kept (b .vlenb) d (e .masked) i (s .registers) (spared i u .mask);
+          offset = λ i l u. spared i u .vs2 (s .registers);
+        }
 
     change-later : Untouched b word s d → (c : Change) → Untouched b word s c → Untouched b word (withChange d s) c
     change-later u c =
         untouched-later b s (withChange d s) (le-refl _) word c (plan-same b word s d (u .scalars))
-        (plan-later (planAt b word s) h (lies-at b w word s h) (u .registers))
+        (plan-later (planAt b word s) h (contained-at b w word s h) (u .registers))
 
   -- after a list of changes, where the word is legal
   record Changed (s : State) (cs : List Change) : Type 0 where
@@ -186,7 +176,7 @@ module _ (b : Board) (w : Valid b) (word : ℕ) where
       }
 
   -- and where it is not
-  rejected-changed : (s : State) (cs : List Change) (a : Answer) (n : ℕ) → rejectionIn s ≡ some a → NoneNamed cs
+  rejected-changed : (s : State) (cs : List Change) (a : Answer) (n : ℕ) → rejectionIn s ≡ some a → All Unnamed cs
       → turnOf b word n (withChanges cs s) ≡ followedBy cs (turnOf b word n s)
   rejected-changed s cs a n h x =
       rejected-turn (withChanges cs s) a n (rejection-changes s cs x ∙ h) ∙ sym (ap (followedBy cs) (rejected-turn s a n h))
@@ -223,7 +213,7 @@ module _ (b : Board) (w : Valid b) (word : ℕ) where
       absurd (apart (λ t. t) (changesNothing a && isTrap a) false (rw (k, h .0)) refl (nothing-traps a))
 
   rejected-always : (s : State) (a : Answer) (n : ℕ) (us : List Resumed) → rejectionIn s ≡ some a → ProceedsResumed b word s n us
-      → NoneNamed (allChanges us) → resumedTurns b word s n us .answer ≡ a
+      → All Unnamed (allChanges us) → resumedTurns b word s n us .answer ≡ a
   unfolding resumedTurns
   rejected-always s a n [] h q x = ap (λ (o : Outcome). o .answer) (rejected-turn s a n h)
   rejected-always s a n (u ∷ us) h q x =
@@ -232,13 +222,13 @@ module _ (b : Board) (w : Valid b) (word : ℕ) where
       same-rights a (s .rights) (u .next .rights) (rejecting s a h) (subst (λ (o : Outcome). Between o (u .next)) e (q .1 .1 .0)) in
       let again : rejectionIn (resumedState u s) ≡ some a =
       ap (λ (z : List ℕ). rejectionIn (withRights z (withChanges (u .changes) s))) (r ∙ sym (changes-rights (u .changes) s))
-      ∙ rejection-changes s (u .changes) (named-first (u .changes) (allChanges us) x) ∙ h in
+      ∙ rejection-changes s (u .changes) (all-first Unnamed (u .changes) (allChanges us) x) ∙ h in
       ap (λ (o : Outcome). resumedTurns b word (resumedState u (o .after)) (u .next .allowance) us .answer) e
       ∙ rejected-always (resumedState u s) a (u .next .allowance) us again
       (subst (λ (o : Outcome). ProceedsResumed b word (resumedState u (o .after)) (u .next .allowance) us) e (q .1 .1 .1))
-      (named-rest (u .changes) (allChanges us) x)
+      (all-rest Unnamed (u .changes) (allChanges us) x)
 
-  finished-legal : (s : State) (n : ℕ) (us : List Resumed) → ProceedsResumed b word s n us → NoneNamed (allChanges us)
+  finished-legal : (s : State) (n : ℕ) (us : List Resumed) → ProceedsResumed b word s n us → All Unnamed (allChanges us)
       → resumedTurns b word s n us .answer ≡ Finished → rejectionIn s ≡ none
   finished-legal s n us q x f = go (rejectionIn s) refl where
     go : (r : Option Answer) → rejectionIn s ≡ r → rejectionIn s ≡ none
@@ -267,11 +257,12 @@ module _ (b : Board) (w : Valid b) (word : ℕ) where
       let moved : withChanges (v .changes) s₁ ≡ resumed = sym (rights-changes (v .changes) r (o .after)) in
       let untouched₁ : AllUntouched s₁ all = turn-later s n r all legal (q .1 .0) u in
       let legal₁ : rejectionIn s₁ ≡ none =
-      sym (rejection-changes s₁ (v .changes) (named-first (v .changes) rest names)) ∙ ap rejectionIn moved
-      ∙ finished-legal resumed (v .next .allowance) us (q .1 .1 .1) (named-rest (v .changes) rest names) f in
+      sym (rejection-changes s₁ (v .changes) (all-first Unnamed (v .changes) rest names)) ∙ ap rejectionIn moved
+      ∙ finished-legal resumed (v .next .allowance) us (q .1 .1 .1) (all-rest Unnamed (v .changes) rest names) f in
       let later : AllUntouched resumed rest =
       subst (λ (z : State). AllUntouched z rest) moved
-      (changed s₁ (v .changes) legal₁ (all-first s₁ (v .changes) rest untouched₁) .later rest (all-rest s₁ (v .changes) rest untouched₁)) in
+      (changed s₁ (v .changes) legal₁ (all-first (Untouched b word s₁) (v .changes) rest untouched₁) .later rest
+      (all-rest (Untouched b word s₁) (v .changes) rest untouched₁)) in
       let more : Front resumed (v .next .allowance) us = front resumed (v .next .allowance) us (q .1 .1 .1) later f in
       let first : turnOf b word n (withChanges all s) ≡ followedBy all o = turn-changed s all n u in
       let here : withChanges rest resumed ≡ withRights r (followedBy all o .after) =
@@ -279,8 +270,7 @@ module _ (b : Board) (w : Valid b) (word : ℕ) where
       record {
         proceeds =
             subst (λ (x : Outcome). (n < 2 ^ 32) × ((x .answer ≡ Finished → ⊥) × (Between x (v .next)
-            × Proceeds b word (withRights r (x .after)) (v .next .allowance) (turnsAlone us)))) (sym first)
-            (
+            × Proceeds b word (withRights r (x .after)) (v .next .allowance) (turnsAlone us)))) (sym first) (
               q .0,
               (
                 q .1 .0,
@@ -310,16 +300,49 @@ module _ (b : Board) (w : Valid b) (word : ℕ) where
       let last : List ℕ → List ℕ = λ r. lastRights r (turnsAlone us) in
       let r : List ℕ = last (s .rights) in
       sym (moved .same)
-      ∙ sym (demand-3 b w .uncut word n (withChanges all s) (turnsAlone us) (moved .proceeds) (ap (λ (o : Outcome). o .answer) (moved .same) ∙ f))
+      ∙ sym (demand-3 b w .uncut word n (withChanges all s) (turnsAlone us) (moved .proceeds)
+      (ap (λ (o : Outcome). o .answer) (moved .same) ∙ f))
       ∙ ap (λ (z : List ℕ). turnOf b word (2 ^ 32 - 1) (withRights (last z) (withChanges all s))) (changes-rights all s)
       ∙ ap (turnOf b word (2 ^ 32 - 1)) (rights-changes all r s)
       ∙ turn-changed (withRights r s) all (2 ^ 32 - 1) (rights-later s r all u)
 
-unchanged-turns : (b : Board) (word n : ℕ) (s : State) (us : List Next) → resumedTurns b word s n (withoutChanges us) ≡ turnsOf b word s n us
+unchanged-turns : (b : Board) (word n : ℕ) (s : State) (us : List Next)
+    → resumedTurns b word s n (withoutChanges us) ≡ turnsOf b word s n us
 unfolding turnsOf resumedTurns withChanges
 unchanged-turns b word n s [] = refl
 unchanged-turns b word n s (u ∷ us) =
     ap (joined (turnOf b word n s)) (unchanged-turns b word (u .allowance) (withRights (u .rights) (turnOf b word n s .after)) us)
+
+-- ---- demand 3 is the case with no changes: it follows from the theorem alone
+
+no-changes : (us : List Next) → allChanges (withoutChanges us) ≡ []
+no-changes [] = refl
+no-changes (u ∷ us) = no-changes us
+
+same-turns : (us : List Next) → turnsAlone (withoutChanges us) ≡ us
+same-turns [] = refl
+same-turns (u ∷ us) = ap (λ (vs : List Next). u ∷ vs) (same-turns us)
+
+unchanged-proceeds : (b : Board) (word n : ℕ) (s : State) (us : List Next) → Proceeds b word s n us
+    → ProceedsResumed b word s n (withoutChanges us)
+unfolding withChanges
+unchanged-proceeds b word n s [] h = h
+unchanged-proceeds b word n s (u ∷ us) h =
+    let s′ : State = withRights (u .rights) (turnOf b word n s .after) in
+    (h .0, (h .1 .0, (h .1 .1 .0, unchanged-proceeds b word (u .allowance) s′ us (h .1 .1 .1))))
+
+pub without-changes : (b : Board) → ChangesFollow b → (word n : ℕ) (s : State) (us : List Next) → Proceeds b word s n us
+    → turnsOf b word s n us .answer ≡ Finished
+    → turnOf b word (2 ^ 32 - 1) (withRights (lastRights (s .rights) us) s) ≡ turnsOf b word s n us
+unfolding withChanges
+without-changes b f word n s us h e =
+    let same : resumedTurns b word s n (withoutChanges us) ≡ turnsOf b word s n us = f .unchanged word n s us in
+    let uncut : List Change → List Next → Outcome =
+    λ cs vs. followedBy cs (turnOf b word (2 ^ 32 - 1) (withRights (lastRights (s .rights) vs) s)) in
+    sym (sym same
+    ∙ f .uncut word n s (withoutChanges us) (unchanged-proceeds b word n s us h)
+    (ap (anyOf (touches b word s)) (no-changes us)) (ap (λ (o : Outcome). o .answer) same ∙ e)
+    ∙ ap₂ uncut (no-changes us) (same-turns us))
 
 pub changes-follow-on : (b : Board) → Valid b → ChangesFollow b
 unfolding withChanges

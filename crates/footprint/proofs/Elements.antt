@@ -28,7 +28,7 @@ use Rattle.plan.specs.declared.Elementwise.{Elementwise}
 use Rattle.turn_theory.specs.Turn.{Effect, inactive, fault, write}
 use Rattle.machine.specs.State.{Core}
 use Rattle.machine.specs.Effect.{Write, toRegisters, toMemory, putOf, putAll, valueOf, activeOf, elementAddress, ifGranted, vs2At, staysAt}
-use Rattle.machine.specs.Effect.{permutedOf, eachField, fieldWrite, transferring, actingOf, effectOf}
+use Rattle.machine.specs.Effect.{eachField, fieldWrite, transferring, actingOf, effectOf}
 use Rattle.machine.proofs.EffectLaws.{permuted-same}
 use Rattle.footprint.specs.Changes.{Change, registerByte, scalarRegister, memoryByte, changedRegisters, changedScalars, changedMemory}
 use Rattle.footprint.proofs.Spared.{and-none, memory-length, ElementKept, ReadKept}
@@ -135,7 +135,8 @@ module _ (b : Board) (c : Change) (r : List ℕ) (e : Elementwise) (i : ℕ) (k 
   acting-same s (A.Permute p) m h =
       rw (
         k .vs1 (s .registers),
-        permuted-same (p .op) (p .sew) (e .end) _ _ (valueOf vlenb (s .registers) (e .vs1) i) i (λ j q. vs2-same (p .vlmax) m (s .registers) j),
+        permuted-same (p .op) (p .sew) (e .end) _ _ (valueOf vlenb (s .registers) (e .vs1) i) i
+            (λ j q. vs2-same (p .vlmax) m (s .registers) j),
       )
   acting-same s (A.Transfer t) m h =
       ap (λ (o : ℕ). transferring vlenb r (coreWith c s) (t .store) g (t .bytes) i (elementAddress t i o)) (k .vs2 (s .registers))
@@ -146,7 +147,8 @@ module _ (b : Board) (c : Change) (r : List ℕ) (e : Elementwise) (i : ℕ) (k 
       → effectOf b r (coreWith c s) e i ≡ effectOf b r s e i
   unfolding effectOf
   effect-same s h =
-      ap (λ (t : Bool). cond t (actingOf b r (coreWith c s) e i (e .action)) inactive) (active-kept vlenb c (e .masked) i (s .registers) (k .mask))
+      ap (λ (t : Bool). cond t (actingOf b r (coreWith c s) e i (e .action)) inactive)
+      (active-kept vlenb c (e .masked) i (s .registers) (k .mask))
       ∙ go (activeOf vlenb (s .registers) (e .masked) i) h
     where
       go : (t : Bool) → (t ≡ true → ActionSpared vlenb c (s .registers) e i (e .action))
@@ -162,7 +164,8 @@ module _ (b : Board) (c : Change) (r : List ℕ) (e : Elementwise) (i : ℕ) (k 
   put-kept reg eew h d x s p q = rw (p, q, h .written (s .registers) (x .value))
 
   -- one write to the destination
-  one-kept : (x : Element) (s : Core) → putAll vlenb (toRegisters g i x ∷ []) (coreWith c s) ≡ coreWith c (putAll vlenb (toRegisters g i x ∷ []) s)
+  one-kept : (x : Element) (s : Core)
+      → putAll vlenb (toRegisters g i x ∷ []) (coreWith c s) ≡ coreWith c (putAll vlenb (toRegisters g i x ∷ []) s)
   unfolding putAll
   one-kept x s = put-kept (fieldGroup g 0 .reg) (g .eew) (k .dest 0 (omega arith)) g x s (omega arith) refl
 
@@ -197,7 +200,8 @@ module _ (b : Board) (c : Change) (r : List ℕ) (e : Elementwise) (i : ℕ) (k 
   acting-writes : (s : Core) (act : Action) → ActionSpared vlenb c (s .registers) e i act → WritesKept (actingOf b r s e i act)
   unfolding actingOf
   acting-writes s (A.Compute o) h = one-kept _
-  acting-writes s (A.Permute p) h = either WritesKept (staysAt (p .op) (valueOf vlenb (s .registers) (e .vs1) i) i) _ _ (λ t. tt) (λ t. one-kept _)
+  acting-writes s (A.Permute p) h =
+      either WritesKept (staysAt (p .op) (valueOf vlenb (s .registers) (e .vs1) i) i) _ _ (λ t. tt) (λ t. one-kept _)
   acting-writes s (A.Transfer t) h =
       granted-kept (fieldsAccess r (length (s .memory)) (t .store) _ (t .bytes) 0 (nfields g)) _
       (λ x. fields-kept (s .registers) (s .memory) (t .bytes) _ h (t .store) 0 (nfields g) x (omega arith))

@@ -1,5 +1,5 @@
--- What is left of an instruction addresses no other bytes than the whole of it did: its later elements are active as before and lie where they
--- did, after a turn that does not finish, and after a change that is not touched.
+-- What is left of an instruction addresses no other bytes than the whole of it did: its later elements are active as before and lie where
+-- they did, after a turn that does not finish, and after a change that is not touched.
 use Prim.Native.Nat.{ℕ, zero, suc, _+_, _-_, _≤_, _<_}
 use mathlib.Core.Path.{_≡_, refl, sym, ap, ap₂, _∙_, subst}
 use mathlib.Core.Bool.{Bool, true, false, _&&_}
@@ -10,7 +10,6 @@ use lib.Dec.{ltb, leb, eqb}
 use Rattle.control.specs.declared.Board.{Board}
 use Rattle.control.specs.declared.Control.{Control}
 use Rattle.control.specs.Control.{withVstart}
-use Rattle.group.specs.declared.Group.{Group}
 use Rattle.group.specs.Group.{nfields}
 use Rattle.access.specs.declared.Fault.{Fault}
 use Rattle.access.specs.Access.{fieldAddress}
@@ -23,9 +22,9 @@ use Rattle.plan.specs.declared.Transfer.{Transfer}
 use Rattle.plan.specs.declared.Plan.{Plan}
 use Rattle.plan.specs.declared.Plan.the-variants as P
 use Rattle.plan.specs.Sources.{sourcesOf}
-use Rattle.legality.specs.Legal.{writesRegisters, operandsFit}
+use Rattle.legality.specs.Legal.{writesRegisters}
 use Rattle.legality.proofs.LegalLaws.{elements-of-legal}
-use Rattle.turn_theory.specs.Turn.{Effect, inactive, fault, write, finished, Semantics, Point, Turn, TurnEnd, apply, written, turn}
+use Rattle.turn_theory.specs.Turn.{Effect, inactive, fault, write, finished, Semantics, Point, Turn, apply, written, turn}
 use Rattle.turn_theory.proofs.Laws.{turn-cases}
 use Rattle.machine.specs.State.{State, Core}
 use Rattle.machine.specs.Effect.{Write, toRegisters, toMemory, putOf, putAll, valueOf, activeOf, elementAddress, effectOf}
@@ -62,7 +61,8 @@ module _ (b : Board) (s s′ : State) (l : s .control .vstart ≤ s′ .control 
       → transferAddresses b s e t a ≡ false → transferAddresses b s′ e t a ≡ false
   transfer-later e t a y h =
       from-none (test s′) (s′ .control .vstart) (e .end - s′ .control .vstart)
-      (λ i m u. same i m (omega arith) ∙ from-each (test s) (s .control .vstart) (e .end - s .control .vstart) h i (omega arith) (omega arith))
+      (λ i m u. same i m (omega arith)
+      ∙ from-each (test s) (s .control .vstart) (e .end - s .control .vstart) h i (omega arith) (omega arith))
     where
       test : State → ℕ → Bool
       test x i = activeOf (b .vlenb) (x .registers) (e .masked) i && elementAddresses b x e t a i

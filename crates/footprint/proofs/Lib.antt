@@ -1,5 +1,5 @@
 pub mod Spared
-pub mod Lying
+pub mod Contained
 pub mod Elements
 pub mod Untouched
 pub mod Later

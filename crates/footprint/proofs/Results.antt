@@ -1,8 +1,8 @@
 -- An instruction that takes one turn does not see a change that its footprint leaves out: its result, and then the change.
-use Prim.Native.Nat.{ℕ, zero, suc, _+_, _*_, _%_, _^_, _≤_, _<_}
+use Prim.Native.Nat.{ℕ, zero, suc, _+_, _%_, _^_, _≤_, _<_}
 use mathlib.Core.Path.{_≡_, refl, ap, ap₂, _∙_}
 use mathlib.Core.Bool.{Bool, true, false, _&&_, cond}
-use mathlib.Core.List.{List, [], _∷_, _++_, foldl}
+use mathlib.Core.List.{List, [], foldl}
 use native.Mathlib.Omega.{arith}
 use lib.Dec.{ltb, eqb}
 use Rattle.width.specs.Width.{flag}
@@ -20,19 +20,16 @@ use Rattle.decode.specs.declared.PackOp.the-variants.{Viota, Vcompress}
 use Rattle.decode.specs.declared.ScalarMoveOp.{ScalarMoveOp}
 use Rattle.decode.specs.declared.ScalarMoveOp.the-variants.{VmvXS, VmvSX}
 use Rattle.layout.specs.Layout.{elementAt, withElement}
-use Rattle.group.specs.Group.{maskGroup}
-use Rattle.plan.specs.declared.Read.{Read}
 use Rattle.plan.specs.declared.Read.the-variants as R
 use Rattle.plan.specs.declared.Reduction.{Reduction}
 use Rattle.plan.specs.declared.Packing.{Packing}
 use Rattle.plan.specs.declared.ScalarMove.{ScalarMove}
 use Rattle.plan.specs.Plan.{scalarOf}
-use Rattle.legality.specs.Legal.{writesMask}
 use Rattle.machine.specs.State.{Core}
 use Rattle.machine.specs.Effect.{valueOf, activeOf}
-use Rattle.machine.specs.OneTurn.{avlFrom, typeFrom, settingResult, setAt, populationOf, firstOf, writingEach, firstBit, settingFirst, firstIn}
-use Rattle.machine.specs.OneTurn.{maskResult, joinedBy, activeElements, elementsIn, reducedFile, packs, packedPlace, packedValue, packedFile}
-use Rattle.machine.specs.OneTurn.{scalarMoveResult}
+use Rattle.machine.specs.OneTurn.{avlFrom, typeFrom, settingResult, setAt, populationOf, firstOf, writingEach, settingFirst, firstIn}
+use Rattle.machine.specs.OneTurn.{maskResult, joinedBy, activeElements, elementsIn, reducedFile, packs, packedPlace, packedValue}
+use Rattle.machine.specs.OneTurn.{packedFile, scalarMoveResult}
 use Rattle.footprint.specs.Footprint.{avlScalars, typeScalars}
 use Rattle.footprint.specs.Changes.{Change, changedRegisters, changedScalars}
 use Rattle.footprint.proofs.Spared.{ElementKept, ReadKept}
@@ -126,7 +123,8 @@ module _ (vlenb vl : ℕ) (c : Change) (m : MaskInstruction) (v0 : (i : ℕ) →
   first-kept = first-same vlenb c (m .masked) (m .vs2) vl v0 vs2 (s .registers) 0 vl (omega arith)
 
   setting-first-kept : ((i : ℕ) → i < vl → ElementKept vlenb c (m .rd) 1 i) → (first : ℕ)
-      → settingFirst vlenb vl (changedRegisters c (s .registers)) m first ≡ changedRegisters c (settingFirst vlenb vl (s .registers) m first)
+      → settingFirst vlenb vl (changedRegisters c (s .registers)) m first
+      ≡ changedRegisters c (settingFirst vlenb vl (s .registers) m first)
   setting-first-kept h first =
       writing-kept vlenb c (m .rd) 1 _ _ _ _ _ _ 0 vl (λ k l u. record {
         test = active-same vlenb c (m .masked) (m .vs2) vl v0 vs2 (s .registers) k (omega arith);
@@ -135,7 +133,8 @@ module _ (vlenb vl : ℕ) (c : Change) (m : MaskInstruction) (v0 : (i : ℕ) →
         kept = h k (omega arith);
       }) (s .registers)
 
-  pub mask-kept : (op : MaskOp) → ResultSpared vlenb vl c m op → maskResult vlenb vl m (coreWith c s) op ≡ coreWith c (maskResult vlenb vl m s op)
+  pub mask-kept : (op : MaskOp) → ResultSpared vlenb vl c m op
+      → maskResult vlenb vl m (coreWith c s) op ≡ coreWith c (maskResult vlenb vl m s op)
   unfolding maskResult
   mask-kept Vcpop h =
       rw (population-same vlenb c (m .masked) (m .vs2) vl v0 vs2 (s .registers) vl (omega arith), h .written (s .scalars) _)
@@ -224,11 +223,14 @@ unfolding scalarMoveResult
 move-kept vlenb c m v s h k VmvXS = rw (h .read (s .registers), k .written (s .scalars) _)
 move-kept vlenb c m v s h k VmvSX = rw (k .read (s .scalars), go (ltb v (s .control .vl)))
   where
+    file : List ℕ
+    file = s .registers
+
     x : ℕ
     x = scalarOf (s .scalars) (m .scalar)
 
     go : (t : Bool)
-        → cond t (withElement vlenb (changedRegisters c (s .registers)) (m .vector .reg) (m .vector .eew) 0 x) (changedRegisters c (s .registers))
-        ≡ changedRegisters c (cond t (withElement vlenb (s .registers) (m .vector .reg) (m .vector .eew) 0 x) (s .registers))
-    go true = h .written (s .registers) x
+        → cond t (withElement vlenb (changedRegisters c file) (m .vector .reg) (m .vector .eew) 0 x) (changedRegisters c file)
+        ≡ changedRegisters c (cond t (withElement vlenb file (m .vector .reg) (m .vector .eew) 0 x) file)
+    go true = h .written file x
     go false = refl

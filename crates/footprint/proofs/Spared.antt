@@ -8,7 +8,7 @@ use native.Mathlib.Omega.{arith}
 use native.Mathlib.Nat.{mul-le-mul-right, div-add-mod', mod-lt}
 use native.Mathlib.Decide.{decLt}
 use lib.ListN.{length, length-set}
-use lib.Dec.{T, ltb, leb}
+use lib.Dec.{T}
 use borrow.Author.Tests.{ltb-false, leb-false}
 use Rattle.layout.specs.Layout.{elementAt, withElement, elementWidth}
 use Rattle.layout.proofs.ElementLaws.{Clear, element-set, withElement-set}
@@ -103,27 +103,30 @@ pub record ElementKept (vlenb : ℕ) (c : Change) (reg eew i : ℕ) : Type 0 whe
 abbrev pub ReadKept : ℕ → Change → Read → ℕ → Type 0
 ReadKept vlenb c r i = (file : List ℕ) → valueOf vlenb (changedRegisters c file) r i ≡ valueOf vlenb file r i
 
--- ---- a group whose first n elements lie in its registers, those of each field in the field's
+-- ---- a group whose first n elements are contained in its registers, those of each field in the field's
 
-pub record Lies (vlenb n : ℕ) (g : Group) : Type 0 where
+pub record Contained (vlenb n : ℕ) (g : Group) : Type 0 where
   pub width : T (elementWidth (g .eew))
   pub within : n * g .eew ≤ registersOf g * (8 * vlenb)
 
-abbrev pub ReadLies : ℕ → ℕ → Read → Type 0
-ReadLies vlenb n (R.Constant x) = Unit {0}
-ReadLies vlenb n (R.Element g) = Lies vlenb n g
-ReadLies vlenb n (R.Bit reg) = n ≤ 8 * vlenb
+abbrev pub ReadContained : ℕ → ℕ → Read → Type 0
+ReadContained vlenb n (R.Constant x) = Unit {0}
+ReadContained vlenb n (R.Element g) = Contained vlenb n g
+ReadContained vlenb n (R.Bit reg) = n ≤ 8 * vlenb
 
 module _ (vlenb : ℕ) (v : 1 ≤ vlenb) (n : ℕ) where
-  -- byte k of the file, where its register is none of the group's
-  group-clear : (g : Group) (k f i : ℕ) → Lies vlenb n g → hasRegister (k / vlenb) g ≡ false → f ≤ g .nf → i < n
+  -- a register that is none of the group's
+  outside : (m : ℕ) (g : Group) → hasRegister m g ≡ false → (m < g .reg) ⊎ (g .reg + spanOf g ≤ m)
+  outside m g h = ⊎-elim (λ t. inl (leb-false _ _ t)) (λ t. inr (ltb-false _ _ t)) (and-none _ _ h)
+
+  -- byte k of the file, where its register is such
+  group-clear : (g : Group) (k f i : ℕ) → Contained vlenb n g → hasRegister (k / vlenb) g ≡ false → f ≤ g .nf → i < n
       → Clear vlenb (fieldGroup g f .reg) (g .eew) i k
   group-clear g k f i m h l u =
       ⊎-elim
-      (λ t. inr (omega (arith, place, less, mul-le-mul-right vlenb (leb-false (g .reg) (k / vlenb) t))))
-      (λ t. inl (omega (arith, place, m .within, here, mul-le-mul-right (8 * vlenb) (fields-before g f l),
-      mul-le-mul-right (8 * vlenb) (ltb-false (k / vlenb) (g .reg + spanOf g) t))))
-      (and-none (leb (g .reg) (k / vlenb)) (ltb (k / vlenb) (g .reg + spanOf g)) h)
+      (λ t. inr (omega (arith, place, less, mul-le-mul-right vlenb t)))
+      (λ t. inl (omega (arith, place, m .within, here, mul-le-mul-right (8 * vlenb) (fields-before g f l), mul-le-mul-right (8 * vlenb) t)))
+      (outside (k / vlenb) g h)
     where
       place : k / vlenb * vlenb + k % vlenb ≡ k
       place = div-add-mod' k vlenb
@@ -134,7 +137,7 @@ module _ (vlenb : ℕ) (v : 1 ≤ vlenb) (n : ℕ) where
       here : (i + 1) * g .eew ≤ n * g .eew
       here = mul-le-mul-right (g .eew) (omega arith)
 
-  pub element-kept : (c : Change) (g : Group) (f i : ℕ) → Lies vlenb n g → Avoids vlenb c (g ∷ []) → f ≤ g .nf → i < n
+  pub element-kept : (c : Change) (g : Group) (f i : ℕ) → Contained vlenb n g → Avoids vlenb c (g ∷ []) → f ≤ g .nf → i < n
       → ElementKept vlenb c (fieldGroup g f .reg) (g .eew) i
   element-kept (registerByte k y) g f i m h l u =
       let clear = group-clear g k f i m (or-none (hasRegister (k / vlenb) g) false h .0) l u in
@@ -146,17 +149,18 @@ module _ (vlenb : ℕ) (v : 1 ≤ vlenb) (n : ℕ) where
   element-kept (memoryByte a x) g f i m h l u = record { read = λ file. refl; written = λ file x. refl }
 
   -- of the first field, or the only one
-  pub first-kept : (c : Change) (g : Group) (i : ℕ) → Lies vlenb n g → Avoids vlenb c (g ∷ []) → i < n
+  pub first-kept : (c : Change) (g : Group) (i : ℕ) → Contained vlenb n g → Avoids vlenb c (g ∷ []) → i < n
       → ElementKept vlenb c (g .reg) (g .eew) i
   first-kept c g i m h u =
       let first : fieldGroup g 0 .reg ≡ g .reg = omega arith in
       subst (λ reg. ElementKept vlenb c reg (g .eew) i) first (element-kept c g 0 i m h (omega arith) u)
 
-  pub bit-lies : (reg : ℕ) → n ≤ 8 * vlenb → Lies vlenb n (maskGroup reg)
-  bit-lies reg h = record { width = tt; within = omega arith }
+  pub bit-contained : (reg : ℕ) → n ≤ 8 * vlenb → Contained vlenb n (maskGroup reg)
+  bit-contained reg h = record { width = tt; within = omega arith }
 
-  pub read-kept : (c : Change) (r : Read) (i : ℕ) → ReadLies vlenb n r → Avoids vlenb c (registersRead r) → i < n → ReadKept vlenb c r i
+  pub read-kept : (c : Change) (r : Read) (i : ℕ) → ReadContained vlenb n r → Avoids vlenb c (registersRead r) → i < n
+      → ReadKept vlenb c r i
   unfolding valueOf
   read-kept c (R.Constant x) i m h u = λ file. refl
   read-kept c (R.Element g) i m h u = first-kept c g i m h u .read
-  read-kept c (R.Bit reg) i m h u = first-kept c (maskGroup reg) i (bit-lies reg m) h u .read
+  read-kept c (R.Bit reg) i m h u = first-kept c (maskGroup reg) i (bit-contained reg m) h u .read

@@ -1,11 +1,10 @@
 -- A turn from a state with a change that the word does not touch is the turn from that state, followed by the change.
 use Prim.Native.Nat.{ℕ, _*_, _≤_, _<_}
 use mathlib.Core.Path.{_≡_, refl, sym, ap, _∙_, subst}
-use mathlib.Core.Bool.{true, false, cond}
+use mathlib.Core.Bool.{cond}
 use mathlib.Core.List.{List, [], _∷_, _++_}
 use mathlib.Core.Option.{Option, none, some}
 use native.Mathlib.Omega.{arith}
-use lib.ListN.{length}
 use lib.Dec.{T, lit<}
 use Rattle.answer.specs.declared.Answer.{Answer}
 use Rattle.control.specs.declared.Board.{Board}
@@ -28,25 +27,24 @@ use Rattle.plan.specs.declared.Plan.{Plan}
 use Rattle.plan.specs.declared.Plan.the-variants as P
 use Rattle.plan.specs.Plan.{scalarMovingOf, planOf}
 use Rattle.plan.specs.Sources.{registersRead, v0Source, reductionSources, packingSources, oneTurnSources, sourcesOf}
-use Rattle.legality.specs.Legal.{writesMask, legalOf, kindLegal}
+use Rattle.legality.specs.Legal.{writesMask, kindLegal}
 use Rattle.legality.proofs.LegalLaws.{rules-of-legal, elements-of-legal, one-turn-of-legal}
 use Rattle.turn_theory.specs.Turn.{finished, TurnEnd}
 use Rattle.turn_theory.specs.Claims.{Unseen}
 use Rattle.turn_theory.proofs.Laws.{turn-rejected, one-turn}
 use Rattle.turn_theory.proofs.Changes.{passes-by}
-use Rattle.machine.specs.State.{State, Outcome, Core, coreOf, stateOf}
-use Rattle.machine.specs.Effect.{activeOf}
+use Rattle.machine.specs.State.{State, Outcome, Core, coreOf}
 use Rattle.machine.specs.OneTurn.{oneTurnResult}
 use Rattle.machine.specs.Machine.{rejectionAt, semanticsOf, outcomeOf, planTurn, planAt, turnOf}
-use Rattle.machine.proofs.Lawful.{Facts, facts, elements-fit}
-use Rattle.machine.proofs.Demands.{J, turnWith, pointOf}
+use Rattle.machine.proofs.Lawful.{facts, elements-fit}
+use Rattle.machine.proofs.Demands.{turnWith, pointOf}
 use Rattle.footprint.specs.Footprint.{oneTurnDestinations, destinationsOf, avlScalars, typeScalars, scalarsOf, addressesByte}
-use Rattle.footprint.specs.Changes.{Change, withChange, touches}
-use Rattle.footprint.proofs.Spared.{registers-length, scalars-length, memory-length, Avoids, avoids-first, avoids-rest, ElementKept}
-use Rattle.footprint.proofs.Spared.{Lies, read-kept, first-kept, bit-lies}
-use Rattle.footprint.proofs.Lying.{ElementsLie, OneTurnLies, PlanLies, plan-lies}
-use Rattle.footprint.proofs.Elements.{coreWith, ElementSpared, ActionSpared, effect-same, effect-writes}
-use Rattle.footprint.proofs.Untouched.{AvoidsScalars, AvoidsMemory, Untouched, untouched, scalar-kept, scalars-others, plan-kept}
+use Rattle.footprint.specs.Changes.{Change, withChange}
+use Rattle.footprint.proofs.Spared.{registers-length, scalars-length, memory-length, Avoids, avoids-first, avoids-rest}
+use Rattle.footprint.proofs.Spared.{ElementKept, read-kept, first-kept, bit-contained}
+use Rattle.footprint.proofs.Contained.{OneTurnContained, PlanContained, plan-contained}
+use Rattle.footprint.proofs.Elements.{coreWith, ElementSpared, effect-same, effect-writes}
+use Rattle.footprint.proofs.Untouched.{AvoidsScalars, AvoidsMemory, Untouched, scalar-kept, scalars-others, plan-kept}
 use Rattle.footprint.proofs.Untouched.{mask-spared, element-spared, action-spared}
 use Rattle.footprint.proofs.Results.{setting-kept, ResultSpared, mask-kept, reduction-kept, packing-kept, move-kept}
 
@@ -89,16 +87,19 @@ module _ (b : Board) (w : 1 ≤ b .vlenb) (c : Change) (s : Core) where
   abbrev vl : ℕ
   vl = s .control .vl
 
+  bits-kept : (reg : ℕ) → vl ≤ 8 * vlenb → Avoids vlenb c (maskGroup reg ∷ []) → (i : ℕ) → i < vl → ElementKept vlenb c reg 1 i
+  bits-kept reg l h i u = first-kept vlenb w vl c (maskGroup reg) i (bit-contained vlenb w vl reg l) h u
+
   mask-result-spared : (m : MaskInstruction) → vl ≤ 8 * vlenb → (op : MaskOp)
       → Avoids vlenb c (cond (writesMask op) (maskGroup (m .rd) ∷ []) []) → AvoidsScalars c (cond (writesMask op) [] (m .rd ∷ []))
       → ResultSpared vlenb vl c m op
   mask-result-spared m l Vcpop h q = scalar-kept c (m .rd) [] q
   mask-result-spared m l Vfirst h q = scalar-kept c (m .rd) [] q
-  mask-result-spared m l Vmsbf h q = λ i u. first-kept vlenb w vl c (maskGroup (m .rd)) i (bit-lies vlenb w vl (m .rd) l) h u
-  mask-result-spared m l Vmsof h q = λ i u. first-kept vlenb w vl c (maskGroup (m .rd)) i (bit-lies vlenb w vl (m .rd) l) h u
-  mask-result-spared m l Vmsif h q = λ i u. first-kept vlenb w vl c (maskGroup (m .rd)) i (bit-lies vlenb w vl (m .rd) l) h u
+  mask-result-spared m l Vmsbf h q = bits-kept (m .rd) l h
+  mask-result-spared m l Vmsof h q = bits-kept (m .rd) l h
+  mask-result-spared m l Vmsif h q = bits-kept (m .rd) l h
 
-  one-turn-kept : (t : OneTurn) (v : ℕ) → OneTurnLies vlenb vl t → Avoids vlenb c (oneTurnSources t ++ oneTurnDestinations t)
+  one-turn-kept : (t : OneTurn) (v : ℕ) → OneTurnContained vlenb vl t → Avoids vlenb c (oneTurnSources t ++ oneTurnDestinations t)
       → PlanScalars c (P.OneTurn t) → oneTurnResult b t v (coreWith c s) ≡ coreWith c (oneTurnResult b t v s)
   unfolding oneTurnResult scalarsOf reductionSources packingSources
   one-turn-kept (O.Setting t) v l h q =
@@ -147,33 +148,37 @@ abbrev pub changedOutcome : Change → Outcome → Outcome
 changedOutcome c o = record { answer = o .answer; passed = o .passed; place = o .place; after = withChange c (o .after) }
 
 module _ (b : Board) (w : 1 ≤ b .vlenb) (c : Change) (s : State) where
-  abbrev LegalAt : Plan → Type 0
+  abbrev pub LegalAt : Plan → Type 0
   LegalAt p = rejectionAt b p (s .rights) (coreOf s) (s .control .vstart) ≡ none
 
-  elements-unseen : (e : Elementwise) → LegalAt (P.Elements e) → PlanLies b (s .control) (P.Elements e)
+  -- an element of an instruction that is legal here
+  pub elements-spared : (e : Elementwise) → LegalAt (P.Elements e) → PlanContained b (s .control) (P.Elements e)
+      → Avoids (b .vlenb) c (sourcesOf (P.Elements e) ++ (e .dest ∷ [])) → (k : ℕ) → k < e .end → ElementSpared (b .vlenb) c e k
+  unfolding sourcesOf
+  elements-spared e h y a k u =
+      let f = facts b (P.Elements e) (s .rights) (coreOf s) (s .control .vstart) h in
+      element-spared b w c e k
+      (y (elements-fit b (s .control) e (elements-of-legal b (s .control) e (f .legal))) (omega arith)) a u
+
+  elements-unseen : (e : Elementwise) → LegalAt (P.Elements e) → PlanContained b (s .control) (P.Elements e)
       → Avoids (b .vlenb) c (sourcesOf (P.Elements e) ++ (e .dest ∷ [])) → AvoidsMemory c (addressesByte b s (P.Elements e))
       → Unseen (semanticsOf b (P.Elements e)) (coreWith c) (coreOf s) (s .control .vstart)
-  unfolding sourcesOf
-  elements-unseen e h y a q = record {
-    rejection = λ r. rejection-same b (P.Elements e) r c (coreOf s) (s .control .vstart);
-    count = refl;
-    effect = λ r k l u. effect-same b c r e k (spared k u) (coreOf s) (λ t. action-spared b s e k l u t c (e .action) q);
-    put = λ r k x l u p. effect-writes b c r e k (spared k u) (coreOf s) (λ t. action-spared b s e k l u t c (e .action) q) x p;
-    finish = λ x. refl;
-  }
-    where
-      spared : (k : ℕ) → k < e .end → ElementSpared (b .vlenb) c e k
-      spared k u =
-          let f = facts b (P.Elements e) (s .rights) (coreOf s) (s .control .vstart) h in
-          element-spared b w c e k
-          (y (elements-fit b (s .control) e (elements-of-legal b (s .control) e (f .legal))) (omega arith)) a u
+  elements-unseen e h y a q =
+      let spared : (k : ℕ) → k < e .end → ElementSpared (b .vlenb) c e k = elements-spared e h y a in
+      record {
+        rejection = λ r. rejection-same b (P.Elements e) r c (coreOf s) (s .control .vstart);
+        count = refl;
+        effect = λ r k l u. effect-same b c r e k (spared k u) (coreOf s) (λ t. action-spared b s e k l u t c (e .action) q);
+        put = λ r k x l u p. effect-writes b c r e k (spared k u) (coreOf s) (λ t. action-spared b s e k l u t c (e .action) q) x p;
+        finish = λ x. refl;
+      }
 
   none-illegal : LegalAt P.Illegal → ⊥
   unfolding kindLegal
   none-illegal h =
       subst T (sym (rules-of-legal b (s .control) P.Illegal (facts b P.Illegal (s .rights) (coreOf s) (s .control .vstart) h .legal))) tt
 
-  plan-turn : (n : ℕ) (p : Plan) → LegalAt p → PlanLies b (s .control) p → Avoids (b .vlenb) c (sourcesOf p ++ destinationsOf p)
+  plan-turn : (n : ℕ) (p : Plan) → LegalAt p → PlanContained b (s .control) p → Avoids (b .vlenb) c (sourcesOf p ++ destinationsOf p)
       → PlanScalars c p → AvoidsMemory c (addressesByte b s p)
       → planTurn b p n (withChange c s) ≡ changedOutcome c (planTurn b p n s)
   unfolding sourcesOf
@@ -216,9 +221,9 @@ module _ (b : Board) (w : Valid b) (word : ℕ) (s : State) where
   p = planAt b word s
 
   -- what is known of the plan where nothing is rejected
-  pub lies-at : rejectionAt b p (s .rights) (coreOf s) (s .control .vstart) ≡ none → PlanLies b (s .control) p
-  lies-at h =
-      plan-lies b (s .scalars) (s .control) (decodeOf word) w
+  pub contained-at : rejectionAt b p (s .rights) (coreOf s) (s .control .vstart) ≡ none → PlanContained b (s .control) p
+  contained-at h =
+      plan-contained b (s .scalars) (s .control) (decodeOf word) w
       (possible-apart b (s .control) (facts b p (s .rights) (coreOf s) (s .control .vstart) h .acceptable .possible))
       (fits word)
 
@@ -233,5 +238,5 @@ module _ (b : Board) (w : Valid b) (word : ℕ) (s : State) where
           → planTurn b p n (withChange c s) ≡ changedOutcome c (planTurn b p n s)
       go (some x) e = rejected-turn b (w .some) c s n p x e
       go none e =
-          plan-turn b (w .some) c s n p e (lies-at e) (u .registers)
+          plan-turn b (w .some) c s n p e (contained-at e) (u .registers)
           (plan-scalars b (s .scalars) (s .control) c (decodeOf word) (u .scalars)) (u .memory)

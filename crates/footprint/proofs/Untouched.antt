@@ -1,14 +1,13 @@
--- What a word does not touch, part by part: its plan is the same after the change, and none of its elements reads or writes what is changed.
-use Prim.Native.Nat.{ℕ, suc, _+_, _-_, _*_, _≤_, _<_}
+-- What a word does not touch, part by part: its plan is the same after the change, and none of its elements reads or writes what changes.
+use Prim.Native.Nat.{ℕ, _*_, _≤_, _<_}
 use mathlib.Core.Path.{_≡_, refl, sym, ap, _∙_, subst}
 use mathlib.Core.Bool.{Bool, true, false, _&&_, cond}
 use mathlib.Core.List.{List, [], _∷_, _++_}
 use native.Mathlib.Omega.{arith}
-use lib.ListN.{getD, set}
+use lib.ListN.{set}
 use lib.Seq.{getD-set-other, set-comm}
-use lib.Dec.{ltb, leb, eqb}
-use borrow.Author.Tests.{eq-eqb, ne-eqb}
-use Rattle.laws.proofs.Chain.{either}
+use lib.Dec.{eqb}
+use borrow.Author.Tests.{eq-eqb}
 use Rattle.operation.specs.declared.Size.{Size}
 use Rattle.operation.specs.declared.Size.the-variants.{Single}
 use Rattle.operation.specs.Shape.{shapeOf}
@@ -25,14 +24,12 @@ use Rattle.decode.specs.declared.Mode.the-variants as M
 use Rattle.decode.specs.declared.Instruction.{Instruction}
 use Rattle.decode.specs.declared.Instruction.the-variants as I
 use Rattle.decode.specs.Word.{decodeOf}
-use Rattle.group.specs.Group.{maskGroup, nfields}
 use Rattle.plan.specs.declared.Read.{Read}
 use Rattle.plan.specs.declared.Read.the-variants as R
 use Rattle.plan.specs.declared.Action.{Action}
 use Rattle.plan.specs.declared.Action.the-variants as A
 use Rattle.plan.specs.declared.Transfer.{Transfer}
 use Rattle.plan.specs.declared.Elementwise.{Elementwise}
-use Rattle.plan.specs.declared.Plan.{Plan}
 use Rattle.plan.specs.declared.Plan.the-variants as P
 use Rattle.plan.specs.Plan.{scalarOf, secondOf, indexOf, movedBy, shapedOf, permutingOf, byMode, planOf}
 use Rattle.plan.specs.Sources.{registersRead, v0Source, elementSources, sourcesOf}
@@ -41,12 +38,12 @@ use Rattle.machine.specs.Effect.{activeOf}
 use Rattle.machine.specs.OneTurn.{withScalar}
 use Rattle.machine.specs.Machine.{planAt}
 use Rattle.machine.proofs.PlanFacts.{OfV0, unused, used, ReachFits}
-use Rattle.footprint.specs.Footprint.{anyOf, anyFrom, destinationsOf, usesRegister, sourceScalars, scalarsOf, namesScalar, fieldAt}
+use Rattle.footprint.specs.Footprint.{anyOf, destinationsOf, usesRegister, sourceScalars, scalarsOf, namesScalar, fieldAt}
 use Rattle.footprint.specs.Footprint.{elementAddresses, transferAddresses, actionAddresses, addressesByte}
 use Rattle.footprint.specs.Changes.{Change, registerByte, scalarRegister, memoryByte, changedScalars, touches}
-use Rattle.footprint.proofs.Spared.{or-none, and-none, any-first, any-rest, from-each, Avoids, avoids-first, avoids-rest, ElementKept}
-use Rattle.footprint.proofs.Spared.{ReadKept, ReadLies, element-kept, read-kept, first-kept, bit-lies}
-use Rattle.footprint.proofs.Lying.{ElementsLie}
+use Rattle.footprint.proofs.Spared.{or-none, any-first, any-rest, from-each, Avoids, avoids-first, avoids-rest}
+use Rattle.footprint.proofs.Spared.{ReadKept, ReadContained, element-kept, read-kept}
+use Rattle.footprint.proofs.Contained.{ElementsContained}
 use Rattle.footprint.proofs.Elements.{SparesBytes, bytes-kept, MovedSpared, ElementSpared, ActionSpared}
 
 -- ---- the parts
@@ -72,12 +69,6 @@ unfolding touches usesRegister namesScalar
 untouched b word s (registerByte k x) h = record { registers = h; scalars = tt; memory = tt }
 untouched b word s (scalarRegister r x) h = record { registers = tt; scalars = h; memory = tt }
 untouched b word s (memoryByte a x) h = record { registers = tt; scalars = tt; memory = h }
-
-pub touches-not : (b : Board) (word : ℕ) (s : State) (c : Change) → Untouched b word s c → touches b word s c ≡ false
-unfolding touches usesRegister namesScalar
-touches-not b word s (registerByte k x) u = u .registers
-touches-not b word s (scalarRegister r x) u = u .scalars
-touches-not b word s (memoryByte a x) u = u .memory
 
 -- ---- scalar registers
 
@@ -133,7 +124,14 @@ module _ (c : Change) (x : List ℕ) where
 
   module _ (b : Board) (d : Control) where
     mode-kept : (a : Access) (m : Mode) → AvoidsScalars c (scalarsOf (I.Memory (record {
-      store = a .store; mode = m; eew = a .eew; vd = a .vd; rs1 = a .rs1; masked = a .masked; nf = a .nf })))
+      store = a .store;
+      mode = m;
+      eew = a .eew;
+      vd = a .vd;
+      rs1 = a .rs1;
+      masked = a .masked;
+      nf = a .nf;
+    })))
         → byMode b (changedScalars c x) d a m ≡ byMode b x d a m
     unfolding byMode scalarsOf
     mode-kept a M.UnitStride h = rw (scalar-kept c (a .rs1) _ h .read x)
@@ -175,13 +173,13 @@ module _ (b : Board) (v : 1 ≤ b .vlenb) (c : Change) where
       → masked ≡ true → ReadKept vlenb c (R.Bit 0) i
   mask-spared n i masked r l u h e = read-kept vlenb v n c (R.Bit 0) i l (subst (λ t. Avoids vlenb c (registersRead (v0Source t r))) e h) u
 
-  moved-spared : (n : ℕ) (vs2 : Read) (act : Action) → ReadLies vlenb n vs2 → Avoids vlenb c (registersRead vs2) → ReachFits n act
+  moved-spared : (n : ℕ) (vs2 : Read) (act : Action) → ReadContained vlenb n vs2 → Avoids vlenb c (registersRead vs2) → ReachFits n act
       → MovedSpared vlenb c vs2 act
   moved-spared n vs2 (A.Compute k) l h e = tt
   moved-spared n vs2 (A.Permute p) l h e = λ k u. read-kept vlenb v n c vs2 k l h (omega (arith, e))
   moved-spared n vs2 (A.Transfer t) l h e = tt
 
-  pub element-spared : (e : Elementwise) (i : ℕ) → ElementsLie b e → Avoids vlenb c (elementSources e ++ (e .dest ∷ [])) → i < e .end
+  pub element-spared : (e : Elementwise) (i : ℕ) → ElementsContained b e → Avoids vlenb c (elementSources e ++ (e .dest ∷ [])) → i < e .end
       → ElementSpared vlenb c e i
   unfolding elementSources
   element-spared e i y h u =
@@ -214,10 +212,7 @@ module _ (b : Board) (s : State) (e : Elementwise) (i : ℕ) (l : s .control .vs
   field-spared t (registerByte k x) q f m = tt
   field-spared t (scalarRegister r x) q f m = tt
   field-spared t (memoryByte a x) q f m =
-      from-each (λ k. leb (fieldAt b s e t i k) a && ltb a (fieldAt b s e t i k + t .bytes)) 0 (nfields (e .dest))
-      (element-none (activeOf (b .vlenb) (s .registers) (e .masked) i) h
-      (from-each (λ j. activeOf (b .vlenb) (s .registers) (e .masked) j && elementAddresses b s e t a j) (s .control .vstart)
-      (e .end - s .control .vstart) q i l (omega arith)))
+      from-each _ _ _ (element-none (activeOf (b .vlenb) (s .registers) (e .masked) i) h (from-each _ _ _ q i (omega arith) (omega arith)))
       f (omega arith) (omega arith)
     where
       element-none : (p : Bool) → p ≡ true → (p && elementAddresses b s e t a i) ≡ false → elementAddresses b s e t a i ≡ false

@@ -1,4 +1,4 @@
--- "Poking while it is paused" (document 02, A12): an instruction run in turns, with changes between them of what it neither reads nor writes.
+-- An instruction run in turns, with changes between them of what it neither reads nor writes (document 02, A12).
 use Prim.Native.Nat.{ℕ, _+_, _-_, _/_, _^_, _<_}
 use mathlib.Core.Path.{_≡_}
 use mathlib.Core.Bool.{Bool, false}
@@ -14,7 +14,8 @@ use Rattle.footprint.specs.Footprint.{anyOf, usesRegister, namesScalar, 
 
 -- ---- changes
 
--- one byte of the register file, one scalar register or one byte of memory, by its index, to a value
+-- one byte of the register file, one scalar register or one byte of memory, by its index, set to a value. (What is proved holds of every
+-- number; past the end of the part nothing is changed)
 pub data Change : Type 0 where
   registerByte : ℕ → ℕ → Change
   scalarRegister : ℕ → ℕ → Change
@@ -50,7 +51,7 @@ unfoldable pub withChanges : List Change → State → State
 withChanges [] s = s
 withChanges (c ∷ others) s = withChanges others (withChange c s)
 
--- the word reads or writes what is changed, at the state s. Byte k of the file is one of v(k / VLENB)
+-- at the state s the word reads, writes, names or addresses what is changed. Byte k of the file is one of register k / VLENB
 unfoldable pub touches : Board → ℕ → State → Change → Bool
 touches b word s (registerByte k x) = usesRegister (planAt b word s) (k / b .vlenb)
 touches b word s (scalarRegister r x) = namesScalar (decodeOf word) r
@@ -58,7 +59,7 @@ touches b word s (memoryByte a x) = addressesByte b s (planAt b word s) a
 
 -- ---- turns with changes between them
 
--- what comes between two turns, and the turn after it
+-- what is changed before a turn after the first, and that turn: its allowance, and the rights that it gets
 pub record Resumed : Type 0 where
   pub changes : List Change
   pub next : Next
@@ -106,7 +107,8 @@ followedBy cs o = record { answer = o .answer; passed = o .passed; place = o .pl
 pub record ChangesFollow (b : Board) : Type 0 where
   -- "if between turns only these change .. then a finished run equals the uncut run from the first state under the last page rights,
   -- followed by those changes in order": answer, passed count, place of a fault and all five parts
-  pub uncut : (word n : ℕ) (s : State) (us : List Resumed) → ProceedsResumed b word s n us → anyOf (touches b word s) (allChanges us) ≡ false
+  pub uncut : (word n : ℕ) (s : State) (us : List Resumed) → ProceedsResumed b word s n us
+      → anyOf (touches b word s) (allChanges us) ≡ false
       → resumedTurns b word s n us .answer ≡ Finished
       → resumedTurns b word s n us
       ≡ followedBy (allChanges us) (turnOf b word (2 ^ 32 - 1) (withRights (lastRights (s .rights) (turnsAlone us)) s))

@@ -1,6 +1,6 @@
 -- What an instruction reads and writes, its footprint (document 02, A12: "vector registers the instruction neither reads nor writes, scalar
 -- registers it doesn't name, and memory bytes that none of its active elements addresses").
-use Prim.Native.Nat.{ℕ, zero, suc, _+_, _-_, _/_}
+use Prim.Native.Nat.{ℕ, zero, suc, _+_, _-_}
 use mathlib.Core.Bool.{Bool, false, _&&_, _||_, cond}
 use mathlib.Core.List.{List, [], _∷_, _++_}
 use lib.Dec.{ltb, leb, eqb}
@@ -15,7 +15,6 @@ use Rattle.decode.specs.declared.Mode.{Mode}
 use Rattle.decode.specs.declared.Mode.the-variants.{UnitStride, Strided, Indexed, MaskBytes, Whole}
 use Rattle.decode.specs.declared.Instruction.{Instruction}
 use Rattle.decode.specs.declared.Instruction.the-variants as I
-use Rattle.decode.specs.Word.{decodeOf}
 use Rattle.group.specs.declared.Group.{Group}
 use Rattle.group.specs.Group.{maskGroup, nfields, spanOf}
 use Rattle.access.specs.Access.{fieldAddress}
@@ -31,7 +30,6 @@ use Rattle.plan.specs.Sources.{sourcesOf}
 use Rattle.legality.specs.Legal.{writesMask}
 use Rattle.machine.specs.State.{State}
 use Rattle.machine.specs.Effect.{valueOf, activeOf, elementAddress}
-use Rattle.machine.specs.Machine.{planAt}
 
 -- one of a list passes a test
 abbrev pub anyOf : {A : Type 0} → (A → Bool) → List A → Bool
@@ -43,10 +41,10 @@ unfoldable pub anyFrom : (ℕ → Bool) → ℕ → ℕ → Bool
 anyFrom test i zero = false
 anyFrom test i (suc n) = test i || anyFrom test (suc i) n
 
--- ---- vector registers
+-- ---- "vector registers the instruction neither reads nor writes"
 
--- what one that takes one turn writes: a mask, one register, or a group. vcpop.m, vfirst.m and setting instructions write a scalar register.
--- The vector register of a scalar move is written or read
+-- what an instruction that takes one turn writes: a mask, one register, or a group. vcpop.m, vfirst.m and setting instructions write a
+-- scalar register. The vector register of a scalar move is written or read
 abbrev pub oneTurnDestinations : OneTurn → List Group
 oneTurnDestinations (O.Setting t) = []
 oneTurnDestinations (O.Mask m) = cond (writesMask (m .op)) (maskGroup (m .rd) ∷ []) []
@@ -60,22 +58,23 @@ destinationsOf P.Illegal = []
 destinationsOf (P.OneTurn t) = oneTurnDestinations t
 destinationsOf (P.Elements e) = e .dest ∷ []
 
--- register n is one of the group's, of all fields of a segment: also where its elements are past vl
+-- register n is one of the group's, in any of its fields, also where it holds elements past vl alone
 abbrev pub hasRegister : ℕ → Group → Bool
 hasRegister n g = leb (g .reg) n && ltb n (g .reg + spanOf g)
 
--- of the sources (document 02, A5), v0 among them where it is the mask or an operand, or of the destination
+-- register n is one of a source's (document 02, A5) or of the destination's. "v0 counts as read under a mask": it is a source where it is
+-- the mask or an operand
 unfoldable pub usesRegister : Plan → ℕ → Bool
 usesRegister p n = anyOf (hasRegister n) (sourcesOf p ++ destinationsOf p)
 
--- ---- scalar registers: those that the word names as such, x0 too
+-- ---- "scalar registers it doesn't name": not a field that is a vector register or a number. x0 can be named as any other
 
 abbrev pub sourceScalars : Source → List ℕ
 sourceScalars (Vector r) = []
 sourceScalars (Scalar r) = r ∷ []
 sourceScalars (Immediate n) = []
 
--- rs1 of vsetvli and vsetvl, which is x0 where AVL is the largest or vl is kept
+-- rs1 of vsetvli and vsetvl, which is x0 where AVL is the largest or vl is kept; vsetivli has a number there
 abbrev pub avlScalars : AvlSource → List ℕ
 avlScalars (Register r) = r ∷ []
 avlScalars (Number n) = []
@@ -110,10 +109,11 @@ scalarsOf (I.Memory a) = a .rs1 ∷ modeScalars (a .mode)
 unfoldable pub namesScalar : Instruction → ℕ → Bool
 namesScalar i r = anyOf (eqb r) (scalarsOf i)
 
--- ---- memory
+-- ---- "memory bytes that none of its active elements addresses": from the vstart of the state s up to the end, active by its mask, where
+-- its offsets have them lie
 
 module _ (b : Board) (s : State) (e : Elementwise) (t : Transfer) where
-  -- where field k of element i lies
+  -- where field k of element i begins; what is no segment has one field
   abbrev pub fieldAt : ℕ → ℕ → ℕ
   fieldAt i k = fieldAddress (elementAddress t i (valueOf (b .vlenb) (s .registers) (e .vs2) i)) (t .bytes) k
 
@@ -121,7 +121,7 @@ module _ (b : Board) (s : State) (e : Elementwise) (t : Transfer) where
   abbrev pub elementAddresses : ℕ → ℕ → Bool
   elementAddresses a i = anyFrom (λ k. leb (fieldAt i k) a && ltb a (fieldAt i k + t .bytes)) 0 (nfields (e .dest))
 
-  -- or of one of the active elements, from vstart up to the end
+  -- and of one that is active
   abbrev pub transferAddresses : ℕ → Bool
   transferAddresses a =
       anyFrom (λ i. activeOf (b .vlenb) (s .registers) (e .masked) i && elementAddresses a i) (s .control .vstart)

@@ -99,7 +99,7 @@ pub apart : {A : Type 0} (P : A → Bool) (a c : A) → P a ≡ true → P c ≡
 apart P a c h k e = let f : P a ≡ P c = ap P e in let z : _≡_ {A = ℕ} 0 1 = cc in omega arith
 
 module _ (b : Board) (p : Plan) where
-  abbrev pub J : Semantics
+  abbrev J : Semantics
   J = semanticsOf b p
 
   -- the turn and the point of the theory of turns that rights and an allowance, and a state, make
@@ -282,7 +282,7 @@ put-plan b i p (toMemory a n x) s h = h
 
 module _ (b : Board) (p : Plan) where
   -- the state that a turn with other rights gets after a turn of n from s: the point that this one left
-  abbrev pub following : ℕ → State → List ℕ → State
+  abbrev following : ℕ → State → List ℕ → State
   following n s r = withRights r (planTurn b p n s .after)
 
   -- the point of a state with a VS in use as Dirty, which is how a turn leaves it, and a turn from there
@@ -386,7 +386,7 @@ refused-again a r r′ k f (inl e) = f e
 refused-again a r r′ k f (inr h) = absurd (apart not (isTrap a) true (both-right (changesNothing a) (not (isTrap a)) k) refl (h .0))
 
 module _ (b : Board) (word : ℕ) where
-  pub turn-is : (p : Plan) (n : ℕ) (s : State) → planAt b word s ≡ p → turnOf b word n s ≡ planTurn b p n s
+  turn-is : (p : Plan) (n : ℕ) (s : State) → planAt b word s ≡ p → turnOf b word n s ≡ planTurn b p n s
   unfolding turnOf
   turn-is p n s e = ap (λ (q : Plan). planTurn b q n s) e
 

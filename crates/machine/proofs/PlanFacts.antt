@@ -29,6 +29,9 @@ use Rattle.decode.specs.declared.Mode.the-variants as M
 use Rattle.decode.specs.declared.PermutationOp.{PermutationOp}
 use Rattle.decode.specs.declared.PermutationOp.the-variants.{Vid, Vslideup, Vslidedown, Vslide1up, Vslide1down, Vrgather, Vrgatherei16}
 use Rattle.decode.specs.declared.PermutationInstruction.{PermutationInstruction}
+use Rattle.decode.specs.declared.PackOp.{PackOp}
+use Rattle.decode.specs.declared.PackOp.the-variants.{Viota, Vcompress}
+use Rattle.decode.specs.declared.PackInstruction.{PackInstruction}
 use Rattle.decode.specs.declared.ReductionOp.{ReductionOp}
 use Rattle.decode.specs.declared.ReductionOp.the-variants.{Vredsum, Vredand, Vredor, Vredxor, Vredminu, Vredmin, Vredmaxu, Vredmax}
 use Rattle.decode.specs.declared.ReductionOp.the-variants.{Vwredsumu, Vwredsum}
@@ -51,7 +54,7 @@ use Rattle.plan.proofs.AccessLaws.{one-of, eew-low, whole-le}
 use Rattle.plan.specs.declared.Plan.{Plan}
 use Rattle.plan.specs.declared.Plan.the-variants as P
 use Rattle.plan.specs.Plan.{groupAt, groupsAt, readAt, groupOf, secondOf, v0Read, shapedOf, computingOf, movingOf, byMode, planOf}
-use Rattle.plan.specs.Plan.{indexOf, movedElements, movedBy, permutingOf, scalarEew}
+use Rattle.plan.specs.Plan.{indexOf, movedElements, movedBy, permutingOf, scalarEew, packedElements}
 use Rattle.legality.specs.Legal.{overlapFits, readFits, writesRegisters, strictly, isStrict, isBit, operandsFit}
 use Rattle.machine.specs.Effect.{valueOf}
 use Rattle.machine.proofs.Geometry.{Power, power-of, product-power, quotient-power, quotient-low, sew-power, Extent, mask-extent}
@@ -477,6 +480,12 @@ scalar-wide v Vredmaxu = single v
 scalar-wide v Vredmax = single v
 scalar-wide v Vwredsumu = double v
 scalar-wide v Vwredsum = double v
+
+-- ---- what viota.m and vcompress.vm pack
+
+pub packed-operand : (v : ℕ) (op : PackOp) (a : PackInstruction) → Operand v (packedElements v op a)
+packed-operand v Viota a = constant 0
+packed-operand v Vcompress a = read-operand v Single (a .vs2)
 
 -- ---- the plan of a decoded word
 

@@ -9,7 +9,6 @@ use lib.Dec.{T, leb, eqb, lit<}
 use borrow.Author.Tests.{eqb-true, le-leb}
 use Rattle.laws.proofs.Apart.{both-left, both-right, or-cases}
 use Rattle.laws.proofs.Chain.{or-left}
-use Rattle.operation.specs.declared.Size.the-variants.{Single}
 use Rattle.control.specs.declared.Board.{Board}
 use Rattle.control.specs.declared.Control.{Control}
 use Rattle.control.specs.Board.{Valid}
@@ -37,7 +36,7 @@ use Rattle.plan.proofs.RangeLaws.{plan-range}
 use Rattle.legality.specs.Legal.{startable, readFits, packingPlaced, oneTurnLegal}
 use Rattle.machine.specs.Effect.{valueOf}
 use Rattle.machine.proofs.Geometry.{sew-power, placed-extent, bit-inside}
-use Rattle.machine.proofs.PlanFacts.{Operand, constant, bit, read-operand, supported, element-inside, strictly-kept}
+use Rattle.machine.proofs.PlanFacts.{Operand, bit, packed-operand, supported, element-inside, strictly-kept}
 use Rattle.execute.specs.Step.{ReadInside}
 use Rattle.packing.specs.Packable.{KeepsRead, Packable}
 
@@ -73,10 +72,6 @@ v0-apart d l h =
     nonzero (suc n) e = omega arith
 
 -- ---- the operands
-
-packed-operand : (v : ℕ) (op : PackOp) (a : PackInstruction) → Operand v (packedElements v op a)
-packed-operand v Viota a = constant 0
-packed-operand v Vcompress a = read-operand v Single (a .vs2)
 
 module _ (b : Board) (c : Control) (w : Valid b) (t : Possible b c) (a : PackInstruction) where
   abbrev v : ℕ

@@ -1,5 +1,5 @@
 -- A reduction that is legal: its operator, its elements and its scalars are such as the fold relies on.
-use Prim.Native.Nat.{_*_, _≤_}
+use Prim.Native.Nat.{ℕ, _*_, _≤_}
 use mathlib.Core.Path.{_≡_, refl, subst}
 use mathlib.Core.Bool.{true}
 use mathlib.Core.List.{List}
