@@ -6,7 +6,7 @@
 writes stdin (the cases) and stdout (what the program must print), from instruction vectors (tests/vectors.py has their form) that finish. A
 case is made of a vector so:
 - Registers, scalars and memory are 0, but for what the word reads or writes (`registers_of`, `scalars_of`, `Case.addresses` below, written
-  from documents 000 and 02 and not from specs/): were one forgotten, the state after would not be the vector's.
+  from documents 000 and 02 and not from specs/): were one forgotten, its 0 would show in the state after wherever it matters.
 - The elements are cut into turns at random; some pages that they need are closed at first, and opened after the trap.
 - Before the first turn and between turns, what the word does not touch is changed: of registers and memory mostly the nearest bytes.
 The state after is the vector's, with the changes: no value is worked out here but a checksum. Of each kind of word some vectors are taken,
