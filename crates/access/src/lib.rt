@@ -1,4 +1,7 @@
 // The access test of one element and of the fields of a segment, and what a fault tells.
+
+#![tactic(auto)]
+
 ghost use Rattle.std.specs.Prelude.{◌≡◌, suc, ◌%◌, ◌≤◌, T, length, ◌==◌};
 ghost use Rattle.layout.specs.Layout.{byte_size};
 ghost use Rattle.access.specs.Access.{nowhere, fault_at, needed, misaligned, denied, access_of, fields_access};
@@ -6,7 +9,7 @@ ghost use Rattle.access.specs.Access.{nowhere, fault_at, needed, misaligned, den
 use answer::Answer;
 
 // The page that was asked, and the right that was wanted of it.
-#[derive(Drop)]
+#[derive(Clone, Copy)]
 pub struct Wanted {
     pub page: u64,
     pub right: u8,
@@ -21,7 +24,7 @@ impl Wanted {
 }
 
 // Where a fault lies: the address of the faulting element's first byte, and the page and the right that were wanted there.
-#[derive(Drop)]
+#[derive(Clone, Copy)]
 pub struct FaultPlace {
     pub address: u64,
     pub wanted: Wanted,
@@ -40,14 +43,14 @@ impl FaultPlace {
 }
 
 // A fault: its answer, and where it lies.
-#[derive(Drop)]
+#[derive(Clone, Copy)]
 pub struct Fault {
     pub answer: Answer,
     pub place: FaultPlace,
 }
 
 // What the access test comes to.
-#[derive(Drop)]
+#[derive(Clone, Copy)]
 pub enum AccessTest {
     Granted,
     Faulted(Fault),

@@ -1,4 +1,7 @@
 // The access check: what an uncut turn of a unit-stride access would answer, before it is taken. It changes nothing.
+
+#![tactic(auto)]
+
 ghost use Rattle.std.specs.Prelude.{◌≡◌, ◌-◌, length};
 ghost use Rattle.control.specs.Board.{Valid, base, small};
 ghost use Rattle.plan.specs.declared.Action.TheVariants as Act;

@@ -1,4 +1,7 @@
 // One element of any operation.
+
+#![tactic(auto)]
+
 ghost use Rattle.std.specs.Prelude.{◌≡◌};
 ghost use Rattle.fixed.specs.Round.{exact};
 ghost use Rattle.alu.specs.Element.{element_of, Operands};

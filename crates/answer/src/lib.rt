@@ -1,9 +1,12 @@
 // The answers of document 01, 'One turn and its answer', less one that no call gives (document 02, A7).
+
+#![tactic(auto)]
+
 ghost use Rattle.std.specs.Prelude.{◌≡◌};
 ghost use Rattle.answer.specs.Answer.{number_of};
 
 // What a call comes to; `number` gives the paper's number of each.
-#[derive(Drop)]
+#[derive(Clone, Copy)]
 pub enum Answer {
     Finished,
     Paused,
@@ -21,7 +24,7 @@ pub enum Answer {
 }
 
 // What refusals 32 to 36 come to: nothing against a state, or the answer that refuses it.
-#[derive(Drop)]
+#[derive(Clone, Copy)]
 pub enum Verdict {
     Accepted,
     Refused(Answer),

@@ -1,4 +1,7 @@
 // The elements of a load or a store that lie one after the other in memory, moved as one copy where none of them faults.
+
+#![tactic(auto)]
+
 ghost use Rattle.std.specs.Prelude.{◌≡◌, List, ℕ, ◌+◌, ◌≤◌, length};
 ghost use Rattle.control.specs.declared.Control.{Control};
 ghost use Rattle.execute.specs.Step.{core_at, Attempted};

@@ -3,6 +3,9 @@
 // on the smaller board 'R', 'W' and 'V'. A read writes one line. A write writes two: by the call that is lent the record, then by the call
 // that takes it by value. A view writes two: by `view_with`, then by `place` and `view`; the start is told by the bytes found there, and a
 // checksum is of all.
+
+#![tactic(auto)]
+
 ghost use Rattle.std.specs.Prelude.{◌≤◌, ◌<◌};
 
 use control::Control;

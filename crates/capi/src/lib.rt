@@ -1,5 +1,8 @@
 // The calls with the C ABI: here those of the first board, the record at reset and sheets; in `small` those of the smaller board. A slice
 // crosses as a pointer and a length, the control record as an array of six numbers.
+
+#![tactic(auto)]
+
 ghost use Rattle.std.specs.Prelude.{◌≡◌, ◌≤◌, length};
 ghost use Rattle.answer.specs.Answer.{number_of};
 ghost use Rattle.control.specs.Board.{base};

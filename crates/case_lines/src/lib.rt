@@ -1,4 +1,7 @@
 // The control record as the programs that run cases read it from a line, and as they write it.
+
+#![tactic(auto)]
+
 ghost use Rattle.std.specs.Prelude.{◌≡◌, ◌+◌, ◌*◌, ◌≤◌, ◌^◌, length};
 ghost use Rattle.text.specs.Text.{Wrote};
 ghost use Rattle.case_lines.specs.Lines.{control_at, spaced, control_text};

@@ -6,6 +6,9 @@
 // and every page closed; 'v' bytes of the register file from an index on, 'm' bytes of memory, 'x' a scalar; 'p' the right of a range of
 // pages for the turns, 'q' for the uncut one; 't' a turn of an allowance, 'u' the uncut turn; and then '.', upon which it writes the last
 // answer, the number passed in all turns, a checksum of the state that they leave, and whether the uncut run is the same.
+
+#![tactic(auto)]
+
 ghost use Rattle.std.specs.Prelude.{◌<◌};
 
 use control::Control;
@@ -20,7 +23,7 @@ const MEMORY: usize = 65536;
 const PAGES: usize = 256;
 
 // What the turns of a machine have come to: the last answer, the number passed in all of them, where a fault lies, the control record.
-#[derive(Drop)]
+#[derive(Clone, Copy)]
 struct Told {
     answer: u64,
     passed: u64,
@@ -31,7 +34,7 @@ struct Told {
 }
 
 // A case as far as it has come; `more` is false at the end of the input.
-#[derive(Drop)]
+#[derive(Clone, Copy)]
 struct Case {
     more: bool,
     is_small: bool,

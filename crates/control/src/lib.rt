@@ -1,4 +1,7 @@
 // The control record (vtype, vl, vstart, vxrm, vxsat, VS), and the board whose numbers its rules use.
+
+#![tactic(auto)]
+
 ghost use Rattle.std.specs.Prelude.{◌≡◌, cond, ◌-◌, min};
 ghost use Rattle.control.specs.Board.{Valid, base, small};
 ghost use Rattle.control.specs.Vtype.{lmul8_of, sew_of, vlmax_of, supported_of};
@@ -7,7 +10,7 @@ ghost use Rattle.control.specs.Control.{fields_of, record_of, vill_of, set_to, k
 
 // VLENB (the bytes of a vector register) and ELEN (the bits of the largest element). The two fit 8 bytes, so that a board is stored and
 // loaded in one piece: stored in two and loaded in one it would delay each call.
-#[derive(Drop)]
+#[derive(Clone, Copy)]
 pub struct Board {
     pub vlenb: u32,
     pub elen: u32,
@@ -39,7 +42,7 @@ impl Board {
 
 // The control record (document 01, 'The machine on the screen'), with the status field VS of mstatus (document 02, A8): 0 Off, 1 Initial,
 // 2 Clean, 3 Dirty.
-#[derive(Drop)]
+#[derive(Clone, Copy)]
 pub struct Control {
     pub vtype: u64,
     pub vl: u64,
@@ -50,7 +53,7 @@ pub struct Control {
 }
 
 // What a setting instruction asks of vl: an application vector length, or to keep vl.
-#[derive(Drop)]
+#[derive(Clone, Copy)]
 pub enum Avl {
     To(u64),
     Keep,

@@ -1,5 +1,8 @@
 // What crosses to C: what a call gives, as the numbers that the caller lends room for, and the number of its answer. The control record
 // crosses as an array of six numbers.
+
+#![tactic(auto)]
+
 ghost use Rattle.std.specs.Prelude.{◌≡◌, List, ℕ};
 ghost use Rattle.answer.specs.Answer.{number_of};
 ghost use Rattle.control.specs.Control.{fields_of};

@@ -1,4 +1,7 @@
 // Reads and writes of the control record by CSR number (document 01, 'Control panel'): the record goes in and comes back by value.
+
+#![tactic(auto)]
+
 ghost use Rattle.std.specs.Prelude.{◌≡◌};
 ghost use Rattle.control.specs.Board.{Valid, base, small};
 ghost use Rattle.csr.specs.Csr.{read_of, written_of};
@@ -7,14 +10,14 @@ use answer::Answer;
 use control::{Board, Control};
 
 // What a read comes to: the value is 0 beside any other answer than 0.
-#[derive(Drop)]
+#[derive(Clone, Copy)]
 pub struct CsrRead {
     pub answer: Answer,
     pub value: u64,
 }
 
 // What a write comes to, and the record after it: the same record beside any other answer than 0.
-#[derive(Drop)]
+#[derive(Clone, Copy)]
 pub struct CsrWrite {
     pub answer: Answer,
     pub control: Control,

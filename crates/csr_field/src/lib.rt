@@ -1,4 +1,7 @@
 // The write by CSR number on a lent control record: the written field and VS are changed in it, no other.
+
+#![tactic(auto)]
+
 ghost use Rattle.std.specs.Prelude.{◌≡◌};
 ghost use Rattle.control.specs.Board.{Valid, base, small};
 ghost use Rattle.csr.specs.Csr.{written_of};
@@ -9,7 +12,7 @@ use control::{Board, Control};
 use csr::CsrWrite;
 
 // What a write stores beside VS.
-#[derive(Drop)]
+#[derive(Clone, Copy)]
 pub enum Change {
     Nothing,
     Vstart(u64),
@@ -19,7 +22,7 @@ pub enum Change {
 }
 
 // What a write comes to: its answer, and what it stores.
-#[derive(Drop)]
+#[derive(Clone, Copy)]
 pub struct FieldWrite {
     pub answer: Answer,
     pub change: Change,

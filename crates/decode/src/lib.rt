@@ -1,5 +1,8 @@
 // Decode of every 32-bit word: the listing of section 20 of document 000, the setting forms of section 7 and the memory encodings of
 // section 8. What a word names is here; whether it is legal at a vtype is not.
+
+#![tactic(auto)]
+
 ghost use Rattle.std.specs.Prelude.{◌≡◌, ◌<◌};
 ghost use Rattle.decode.specs.declared.Entry.TheVariants.{MergeOrMove};
 ghost use Rattle.decode.specs.declared.Instruction.TheVariants as Ins;
@@ -12,14 +15,14 @@ ghost use Rattle.decode.specs.Word.{width_of, access, segment_of, mask_of, whole
 use operation::{Op, V0};
 
 // What the vs1 field is, where an operation has a second source: a vector register, a scalar register, or a 5-bit immediate.
-#[derive(Drop)]
+#[derive(Clone, Copy)]
 pub enum Source {
     Vector(usize),
     Scalar(usize),
     Immediate(u64),
 }
 
-#[derive(Drop)]
+#[derive(Clone, Copy)]
 pub struct Arithmetic {
     pub op: Op,
     pub vd: usize,
@@ -30,7 +33,7 @@ pub struct Arithmetic {
 }
 
 // Instructions on a mask that take one turn (sections 16.2 to 16.6).
-#[derive(Drop)]
+#[derive(Clone, Copy)]
 pub enum MaskOp {
     Vcpop,
     Vfirst,
@@ -39,7 +42,7 @@ pub enum MaskOp {
     Vmsif,
 }
 
-#[derive(Drop)]
+#[derive(Clone, Copy)]
 pub struct MaskInstruction {
     pub op: MaskOp,
     // rd of vcpop and vfirst, vd of the others
@@ -49,7 +52,7 @@ pub struct MaskInstruction {
 }
 
 // Reductions (sections 15.1 and 15.2).
-#[derive(Drop)]
+#[derive(Clone, Copy)]
 pub enum ReductionOp {
     Vredsum,
     Vredand,
@@ -63,7 +66,7 @@ pub enum ReductionOp {
     Vwredsum,
 }
 
-#[derive(Drop)]
+#[derive(Clone, Copy)]
 pub struct ReductionInstruction {
     pub op: ReductionOp,
     pub vd: usize,
@@ -73,7 +76,7 @@ pub struct ReductionInstruction {
 }
 
 // Permutations that go element by element (sections 16.9, 17.3 and 17.4).
-#[derive(Drop)]
+#[derive(Clone, Copy)]
 pub enum PermutationOp {
     Vid,
     Vslideup,
@@ -84,7 +87,7 @@ pub enum PermutationOp {
     Vrgatherei16,
 }
 
-#[derive(Drop)]
+#[derive(Clone, Copy)]
 pub struct PermutationInstruction {
     pub op: PermutationOp,
     pub vd: usize,
@@ -94,13 +97,13 @@ pub struct PermutationInstruction {
 }
 
 // Those that count the set bits of a mask and take one turn (sections 16.8 and 17.5).
-#[derive(Drop)]
+#[derive(Clone, Copy)]
 pub enum PackOp {
     Viota,
     Vcompress,
 }
 
-#[derive(Drop)]
+#[derive(Clone, Copy)]
 pub struct PackInstruction {
     pub op: PackOp,
     pub vd: usize,
@@ -110,13 +113,13 @@ pub struct PackInstruction {
 }
 
 // Integer scalar moves (section 17.1): vmv.x.s and vmv.s.x.
-#[derive(Drop)]
+#[derive(Clone, Copy)]
 pub enum ScalarMoveOp {
     VmvXS,
     VmvSX,
 }
 
-#[derive(Drop)]
+#[derive(Clone, Copy)]
 pub struct ScalarMoveInstruction {
     pub op: ScalarMoveOp,
     // vs2 of vmv.x.s, vd of vmv.s.x
@@ -126,7 +129,7 @@ pub struct ScalarMoveInstruction {
 }
 
 // Where AVL comes from (section 7.2).
-#[derive(Drop)]
+#[derive(Clone, Copy)]
 pub enum AvlSource {
     Register(usize),
     Number(u64),
@@ -137,13 +140,13 @@ pub enum AvlSource {
 }
 
 // Where the new vtype comes from.
-#[derive(Drop)]
+#[derive(Clone, Copy)]
 pub enum TypeSource {
     Given(u64),
     InRegister(usize),
 }
 
-#[derive(Drop)]
+#[derive(Clone, Copy)]
 pub struct Setting {
     pub rd: usize,
     pub avl: AvlSource,
@@ -151,7 +154,7 @@ pub struct Setting {
 }
 
 // Addressing modes (section 8.2): the register of the stride or of the offsets, or how many whole registers.
-#[derive(Drop)]
+#[derive(Clone, Copy)]
 pub enum Mode {
     UnitStride,
     Strided(usize),
@@ -160,7 +163,7 @@ pub enum Mode {
     Whole(usize),
 }
 
-#[derive(Drop)]
+#[derive(Clone, Copy)]
 pub struct Access {
     pub store: bool,
     pub mode: Mode,
@@ -174,7 +177,7 @@ pub struct Access {
     pub nf: u32,
 }
 
-#[derive(Drop)]
+#[derive(Clone, Copy)]
 pub enum Instruction {
     Illegal,
     Arithmetic(Arithmetic),
@@ -188,7 +191,7 @@ pub enum Instruction {
 }
 
 // What stands in the listing under a number.
-#[derive(Drop)]
+#[derive(Clone, Copy)]
 pub enum Entry {
     Reserved,
     Operation(Op),

@@ -1,5 +1,8 @@
 // Runs element cases. A line of standard input is a case: the word, SEW, vxrm, the elements of vs2, vs1 and vd and the bit of v0, in hex.
 // For each it writes the result and whether it saturates, or 'none' where the word names no operation of elements at that SEW.
+
+#![tactic(auto)]
+
 ghost use Rattle.std.specs.Prelude.{◌<◌, ◌≤◌, ◌^◌};
 ghost use Rattle.operation.specs.Shape.{eew_of};
 

@@ -1,4 +1,7 @@
 // One element of an arithmetic or memory instruction, in place.
+
+#![tactic(auto)]
+
 ghost use Rattle.std.specs.Prelude.{◌≡◌, ℕ, ◌+◌, ◌*◌, ◌≤◌, cond, T, List, length};
 ghost use Rattle.control.specs.declared.Control.{Control};
 ghost use Rattle.layout.specs.Layout.{bytes_at, with_bytes, element_at, with_element, Inside, byte_size};

@@ -1,5 +1,8 @@
 // The element operations of section 13 of document 000, with the rounding and saturation of sections 4.8 and 4.9. `a` is the element of
 // vs2, `b` that of vs1 (or the scalar or immediate in its place), `rm` the rounding mode.
+
+#![tactic(auto)]
+
 ghost use Rattle.std.specs.Prelude.{◌≡◌, ◌+◌, ◌*◌, ◌%◌, ◌<◌, ◌≤◌, ◌^◌, pos};
 ghost use Rattle.width.specs.Width.{Width};
 ghost use Rattle.fixed.specs.Round.{vxrm_of, increment, roundoff_unsigned, roundoff_signed, clip_unsigned, clip_signed};
@@ -7,14 +10,14 @@ ghost use Rattle.fixed.specs.Fixed.{vsaddu, vssubu, vsadd, vssub, vaaddu, vasubu
 ghost use Rattle.fixed.specs.Fixed.{vssrl, vssra, vnclipu, vnclip, vsmul};
 
 // An element's result, and whether it saturated.
-#[derive(Drop)]
+#[derive(Clone, Copy)]
 pub struct Element {
     pub value: u64,
     pub saturates: bool,
 }
 
 // The rounding modes, by their names in section 4.8.
-#[derive(Drop)]
+#[derive(Clone, Copy)]
 pub enum Vxrm {
     Rnu,
     Rne,

@@ -1,11 +1,14 @@
 // Register groups: EMUL, fields, alignment, the overlap rule and the v0 rule, as tests.
 // The tests are joined by `&` and `|`, as in the definitions: no branches.
+
+#![tactic(auto)]
+
 ghost use Rattle.std.specs.Prelude.{◌≡◌, ◌+◌, ◌≤◌, ◌<◌};
 ghost use Rattle.group.specs.Group.{emul8_of, mask_group, registers_of, span_of, placed_of};
 ghost use Rattle.group.specs.Group.{apart_of, highest_of, may_overlap_of, may_share_of, spares_v0};
 
 // A group: its first register, EEW, and 8 * EMUL. Of a segment access, that of the first field: nf others of the kind follow it.
-#[derive(Drop)]
+#[derive(Clone, Copy)]
 pub struct Group {
     pub reg: usize,
     pub eew: usize,

@@ -1,4 +1,7 @@
 // Numbers in lines of lower-case hex digits.
+
+#![tactic(auto)]
+
 ghost use Rattle.std.specs.Prelude.{◌≡◌, ◌||◌, ◌+◌, ◌≤◌, ◌<◌, ◌^◌, get_or};
 ghost use Rattle.hexadecimal.specs.Hexadecimal.{is_decimal, is_letter, digit_of, digits_at, number_at};
 

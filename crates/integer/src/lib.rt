@@ -1,5 +1,8 @@
 // The element operations of sections 12.1 to 12.9, 12.15 and 12.16 of document 000. `a` is the element of vs2, `b` that of vs1 (or the
 // scalar or immediate in its place), `c` the mask bit of v0.
+
+#![tactic(auto)]
+
 ghost use Rattle.std.specs.Prelude.{◌≡◌, ◌*◌, ◌/◌, ◌%◌, ◌<◌, ◌≤◌, ◌^◌, cond};
 ghost use Rattle.std.specs.Int.Signed.{lt_z, shr_z};
 ghost use Rattle.width.specs.Width.{Width, signed, wrap};

@@ -4,6 +4,9 @@
 // go by value, which a struct and an enum do not: so the operation, the kind of the second operand and the size of an element are a
 // number, a bool and a number. `by_operation`, `by_operand` and `by_size` make each of them a literal in turn, and each pair of calls of one
 // function differs in two arguments or is short: calls that differ in one would be made one again.
+
+#![tactic(auto)]
+
 ghost use Rattle.std.specs.Prelude.{◌≡◌, List, ℕ, ◌+◌, ◌-◌, ◌≤◌, ◌<◌, false, length, T};
 ghost use Rattle.fixed.specs.Round.{exact};
 ghost use Rattle.control.specs.declared.Control.{Control};
@@ -16,7 +19,7 @@ use operation::Op;
 use plan::{Compute, Elementwise, Read};
 
 // A stretch of the elements from `from` to `end`, and where in the register file element 0 of each operand lies.
-#[derive(Drop)]
+#[derive(Clone, Copy)]
 pub struct Stretch {
     pub vd: usize,
     pub vs2: usize,
@@ -26,7 +29,7 @@ pub struct Stretch {
 }
 
 // An operand by numbers: a scalar, or the elements from a register on.
-#[derive(Drop)]
+#[derive(Clone, Copy)]
 struct Operand {
     scalar: bool,
     x: u64,

@@ -1,4 +1,7 @@
 // Elements in the lent bytes: numbers of 1, 2, 4 or 8 bytes, mask bits, and the elements of the register file.
+
+#![tactic(auto)]
+
 ghost use Rattle.std.specs.Prelude.{◌≡◌, ◌+◌, ◌*◌, ◌/◌, ◌^◌, ◌≤◌, ◌<◌, length, T};
 ghost use Rattle.layout.specs.Layout.{bytes_at, with_bytes, bit_at, with_bit_at, element_at, with_element, byte_size, Inside};
 

@@ -1,5 +1,8 @@
 // The element operations of sections 12.10 to 12.14 of document 000. `a` is the element of vs2, `b` that of vs1 (or the scalar in its
 // place), `d` the destination's element before the instruction.
+
+#![tactic(auto)]
+
 ghost use Rattle.std.specs.Prelude.{◌≡◌, ◌*◌, ◌<◌, ◌^◌};
 ghost use Rattle.width.specs.Width.{Width};
 ghost use Rattle.multiply.specs.Multiply.{vmul, vmulh, vmulhu, vmulhsu, vdivu, vremu, vdiv, vrem, vwmul, vwmulu, vwmulsu};

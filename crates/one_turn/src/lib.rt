@@ -1,5 +1,8 @@
 // Instructions that take one turn: the setting instructions (section 7 of document 000), the reductions (section 15), those on masks
 // (sections 16.2 to 16.6), viota.m and vcompress.vm (16.8, 17.5) and the scalar moves (17.1).
+
+#![tactic(auto)]
+
 ghost use Rattle.std.specs.Prelude.{◌≡◌, cond, List, ℕ, ◌*◌, ◌^◌, ◌-◌, ◌<◌, length, T, ltb};
 ghost use Rattle.width.specs.Width.{signed, wrap};
 ghost use Rattle.control.specs.declared.Control.{Control};

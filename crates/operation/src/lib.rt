@@ -1,9 +1,12 @@
 // The operations of sections 12, 13 and 16.1 of document 000 that work element by element, and the shape of each.
+
+#![tactic(auto)]
+
 ghost use Rattle.std.specs.Prelude.{◌≡◌, ◌≤◌};
 ghost use Rattle.operation.specs.Shape.{eew_of, operands_of, maskable_of, accumulating_of, unsigned_of, up_to_32};
 ghost use Rattle.operation.specs.Shape.{shape_at, form_of, shape_of, largest_sew};
 
-#[derive(Drop)]
+#[derive(Clone, Copy)]
 pub enum Op {
     Vadd,
     Vsub,
@@ -91,7 +94,7 @@ pub enum Op {
 }
 
 // An operand's EEW as a multiple of SEW: none, a mask bit, SEW/8 to 2*SEW.
-#[derive(Drop)]
+#[derive(Clone, Copy)]
 pub enum Size {
     Absent,
     Bit,
@@ -103,7 +106,7 @@ pub enum Size {
 }
 
 // What v0 is to an operation. Where it is an operand (the carry, the borrow, or the choice of vmerge), all body elements are active.
-#[derive(Drop)]
+#[derive(Clone, Copy)]
 pub enum V0 {
     // the mask, if vm is 0
     Masks,
@@ -116,7 +119,7 @@ pub enum V0 {
 }
 
 // How the widths of an operation's operands go together.
-#[derive(Drop)]
+#[derive(Clone, Copy)]
 pub enum Form {
     // SEW = SEW op SEW
     SingleWidth,
@@ -152,7 +155,7 @@ pub enum Form {
     MaskLogical,
 }
 
-#[derive(Drop)]
+#[derive(Clone, Copy)]
 pub struct Shape {
     pub vd: Size,
     pub vs2: Size,

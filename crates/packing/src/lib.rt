@@ -1,4 +1,7 @@
 // viota.m and vcompress.vm (sections 16.8 and 17.5 of document 000): one walk over the elements, which counts the set bits of a mask.
+
+#![tactic(auto)]
+
 ghost use Rattle.std.specs.Prelude.{◌≡◌, cond, ◌+◌, ◌%◌, ◌^◌, length};
 ghost use Rattle.width.specs.Width.{flag};
 ghost use Rattle.layout.specs.Layout.{with_element};

@@ -1,4 +1,7 @@
 // One element of a permutation (sections 16.9, 17.3 and 17.4 of document 000), in place.
+
+#![tactic(auto)]
+
 ghost use Rattle.std.specs.Prelude.{◌≡◌, false, cond, List, ℕ, ◌+◌, ◌-◌, ◌≤◌, ◌<◌, length, eqb};
 ghost use Rattle.control.specs.declared.Control.{Control};
 ghost use Rattle.access.specs.declared.AccessTest.TheVariants.{Granted};

@@ -1,4 +1,7 @@
 // What a decoded word means at a board, scalars and a control record: its plan, worked out once before the first element.
+
+#![tactic(auto)]
+
 ghost use Rattle.std.specs.Prelude.{◌≡◌, ◌≤◌, ◌<◌, length, cond};
 ghost use Rattle.width.specs.Width.{signed, wrap};
 ghost use Rattle.control.specs.Board.{Valid};
@@ -24,7 +27,7 @@ use group::Group;
 use operation::{Op, Size, V0};
 
 // Where an operand's element comes from: the same number at every index, an element of a register group, or a bit of a mask register.
-#[derive(Drop)]
+#[derive(Clone, Copy)]
 pub enum Read {
     Constant(u64),
     Element(Group),
@@ -32,7 +35,7 @@ pub enum Read {
 }
 
 // An operation at a SEW and a rounding mode.
-#[derive(Drop)]
+#[derive(Clone, Copy)]
 pub struct Compute {
     pub op: Op,
     pub sew: u64,
@@ -40,7 +43,7 @@ pub struct Compute {
 }
 
 // A load or a store of elements of so many bytes: element i lies at base + i * stride + the element of vs2; of a segment, its first field.
-#[derive(Drop)]
+#[derive(Clone, Copy)]
 pub struct Transfer {
     pub store: bool,
     pub base: u64,
@@ -49,7 +52,7 @@ pub struct Transfer {
 }
 
 // A permutation at a SEW and a VLMAX: elements of vs2 are read below VLMAX, whatever vl is.
-#[derive(Drop)]
+#[derive(Clone, Copy)]
 pub struct Permute {
     pub op: PermutationOp,
     pub sew: u64,
@@ -57,7 +60,7 @@ pub struct Permute {
 }
 
 // What is done at each element.
-#[derive(Drop)]
+#[derive(Clone, Copy)]
 pub enum Action {
     Compute(Compute),
     Permute(Permute),
@@ -65,7 +68,7 @@ pub enum Action {
 }
 
 // What an instruction of elements does, whatever its word was.
-#[derive(Drop)]
+#[derive(Clone, Copy)]
 pub struct Elementwise {
     // what is written; of a store, what is read
     pub dest: Group,
@@ -83,7 +86,7 @@ pub struct Elementwise {
 }
 
 // A reduction at a SEW: element 0 of vd gets element 0 of vs1, joined with each active element of vs2.
-#[derive(Drop)]
+#[derive(Clone, Copy)]
 pub struct Reduction {
     pub op: ReductionOp,
     pub sew: u64,
@@ -95,7 +98,7 @@ pub struct Reduction {
 }
 
 // viota.m, which gives the set bits of a mask below each element, or vcompress.vm, which puts elements there.
-#[derive(Drop)]
+#[derive(Clone, Copy)]
 pub struct Packing {
     pub op: PackOp,
     pub vd: Group,
@@ -108,7 +111,7 @@ pub struct Packing {
 }
 
 // A move between element 0 of a vector register and a scalar register.
-#[derive(Drop)]
+#[derive(Clone, Copy)]
 pub struct ScalarMove {
     pub op: ScalarMoveOp,
     pub vector: Group,
@@ -116,7 +119,7 @@ pub struct ScalarMove {
 }
 
 // An instruction that takes one turn.
-#[derive(Drop)]
+#[derive(Clone, Copy)]
 pub enum OneTurn {
     Setting(Setting),
     Mask(MaskInstruction),
@@ -126,7 +129,7 @@ pub enum OneTurn {
 }
 
 // What a decoded word means: nothing, something that takes one turn, or elements.
-#[derive(Drop)]
+#[derive(Clone, Copy)]
 pub enum Plan {
     Illegal,
     OneTurn(OneTurn),
@@ -134,7 +137,7 @@ pub enum Plan {
 }
 
 // What an instruction reads from vector registers; an operand that is not there is a constant.
-#[derive(Drop)]
+#[derive(Clone, Copy)]
 pub struct Sources {
     pub vs2: Read,
     pub vs1: Read,

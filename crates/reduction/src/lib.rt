@@ -1,4 +1,7 @@
 // Reductions (section 15 of document 000): the fold over the active elements of vs2, from vs1[0] up.
+
+#![tactic(auto)]
+
 ghost use Rattle.std.specs.Prelude.{◌≡◌, cond, ◌^◌, ◌<◌, length};
 ghost use Rattle.layout.specs.Layout.{element_at};
 ghost use Rattle.plan.specs.Plan.{scalar_eew};

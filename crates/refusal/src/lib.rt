@@ -1,4 +1,7 @@
 // Refusals 32 to 36, in their order.
+
+#![tactic(auto)]
+
 ghost use Rattle.std.specs.Prelude.{◌≡◌, max, length};
 ghost use Rattle.control.specs.Board.{Valid, base};
 ghost use Rattle.refusal.specs.Refusal.{rights_fit, refusal_of};

@@ -1,4 +1,7 @@
 // Runs a sheet on a machine of its own, and prints into a lent buffer.
+
+#![tactic(auto)]
+
 ghost use Rattle.std.specs.Prelude.{◌≡◌, ◌+◌, ◌≤◌, ◌^◌, length};
 ghost use Rattle.control.specs.Control.{reset};
 ghost use Rattle.text.specs.Text.{Wrote};
@@ -22,7 +25,7 @@ const MOST_TURNS: u64 = 129;
 pub const SHEET_MAX: usize = 1660000;
 
 // Where the text ends, the last answer, and the control record.
-#[derive(Drop)]
+#[derive(Clone, Copy)]
 pub struct Ran {
     pub at: usize,
     pub answer: Answer,

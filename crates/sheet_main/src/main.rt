@@ -1,5 +1,8 @@
 // Runs the sheet on standard input. No good sheet is longer than 999 bytes, and the first bad line of any other is known from its first
 // 1,000: nothing beyond is read.
+
+#![tactic(auto)]
+
 ghost use Rattle.std.specs.Prelude.{◌≡◌, length};
 ghost use Rattle.sheet.specs.Bounds.{sheet_bound};
 

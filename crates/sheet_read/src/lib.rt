@@ -1,4 +1,7 @@
 // What a sheet says, and its first bad line.
+
+#![tactic(auto)]
+
 ghost use Rattle.std.specs.Prelude.{◌≡◌, ◌++◌, ◌+◌, ◌*◌, ◌≤◌, ◌^◌, length, drop};
 ghost use Rattle.hexadecimal.specs.Hexadecimal.{is_decimal, all_at};
 ghost use Rattle.sheet_read.specs.Sheet.{begins, hex_line, is_mark, mark_of, rights_at, marks_from, rights_line};

@@ -1,6 +1,9 @@
 // Runs sheets. Standard input has, for each, its length in 8 hex digits, and its bytes. For each the program writes what the sheet
 // prints, from a buffer of just that length; `rest=ok` where a longer buffer is as it was behind the text; and `short=ok` where an empty
 // buffer and one that is a byte too short are as they were. In each case the same length must be answered.
+
+#![tactic(auto)]
+
 ghost use Rattle.std.specs.Prelude.{◌≡◌, length, ◌+◌};
 ghost use Rattle.sheet.specs.Bounds.{sheet_bound};
 

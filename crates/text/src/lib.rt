@@ -1,5 +1,8 @@
 // Text into a lent buffer, as far as the buffer reaches. Each call returns the index after the text, whether it fitted or not, so that
 // a run over an empty buffer tells the length that is needed.
+
+#![tactic(auto)]
+
 ghost use Rattle.std.specs.Prelude.{◌≡◌, [], ◌∷◌, ◌+◌, ◌≤◌, ◌<◌, ◌^◌, ◌%◌, length};
 ghost use Rattle.text.specs.Text.{hex_digit, hex, numeral, decimal, short_hex, line, Wrote};
 

@@ -1,4 +1,7 @@
 // One turn of any word on any state.
+
+#![tactic(auto)]
+
 ghost use Rattle.std.specs.Prelude.{◌≡◌};
 ghost use Rattle.answer.specs.declared.Answer.TheVariants.{Finished};
 ghost use Rattle.control.specs.Board.{Valid, base, small};

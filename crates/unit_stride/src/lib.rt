@@ -1,4 +1,7 @@
 // The elements of a unit-stride access, tested: by pages where there is no mask, one after the other where there is.
+
+#![tactic(auto)]
+
 ghost use Rattle.std.specs.Prelude.{◌≡◌, true, cond, ◌+◌, ◌^◌, ◌≤◌, ◌<◌, length, T};
 ghost use Rattle.layout.specs.Layout.{byte_size};
 ghost use Rattle.access.specs.declared.AccessTest.TheVariants.{Granted};
@@ -13,7 +16,7 @@ use control::Board;
 use plan::Transfer;
 
 // What is found: the answer, the element that would fault, the number of pages tested, and what was wanted of which page.
-#[derive(Drop)]
+#[derive(Clone, Copy)]
 pub struct Checked {
     pub answer: Answer,
     pub element: u64,
@@ -122,7 +125,7 @@ pub fn unmasked(rights: &[u8], memory: usize, t: Transfer, vstart: u64, remainin
 // ---- masked: one element after the other
 
 // The pages so far: how many there are, and the page after the last of them, 0 where there is none.
-#[derive(Drop)]
+#[derive(Clone, Copy)]
 struct Tally {
     pages: u64,
     next: u64,

@@ -4,6 +4,9 @@
 // check is made; on the smaller board ',' and '!'. Of a turn it writes the answer, the number passed, the fault address, the page and the
 // right that were wanted, the control record after, and every byte or scalar that has changed; of a check the answer, the element, the
 // number of pages, and the page and the right.
+
+#![tactic(auto)]
+
 ghost use Rattle.std.specs.Prelude.{◌≤◌};
 
 use access::Wanted;
@@ -25,7 +28,7 @@ const MEMORY: usize = 131072;
 const RIGHTS: usize = 512;
 
 // What has bytes.
-#[derive(Drop)]
+#[derive(Clone, Copy)]
 enum Bytes {
     Registers,
     Memory,

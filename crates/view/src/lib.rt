@@ -1,4 +1,7 @@
 // The register view: the bytes of a group of registers, as a part of the lent file.
+
+#![tactic(auto)]
+
 ghost use Rattle.std.specs.Prelude.{◌≡◌, length};
 ghost use Rattle.answer.specs.Answer.{number_of};
 ghost use Rattle.control.specs.Board.{Valid, base, small};
@@ -8,7 +11,7 @@ use answer::Answer;
 use control::Board;
 
 // Where a group lies in the file, in bytes: both numbers are 0 beside any other answer than 0.
-#[derive(Drop)]
+#[derive(Clone, Copy)]
 pub struct ViewPlace {
     pub answer: Answer,
     pub start: usize,
