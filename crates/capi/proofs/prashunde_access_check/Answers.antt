@@ -1,0 +1,6 @@
+use Rattle.capi.proofs.Shown.{told}
+use borrow.Author.Rules.{rules}
+use Rattle.capi.proofs.prashunde_access_check.Goals as goal
+
+pub returns : goal.returns
+returns c = (search told, (search rules, (search rules, (search rules, (search rules, search rules)))))

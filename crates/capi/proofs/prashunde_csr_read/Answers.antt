@@ -1,0 +1,6 @@
+use Rattle.capi.proofs.Shown.{read_number, read-value}
+use borrow.Author.Rules.{rules}
+use Rattle.capi.proofs.prashunde_csr_read.Goals as goal
+
+pub returns : goal.returns
+returns c = (search read_number, (search read-value, search rules))

@@ -1,0 +1,36 @@
+use mathlib.Core.Logic.{⊎_elim}
+use native.Mathlib.Omega.{arith}
+use Rattle.laws.proofs.Chain.{case}
+use Rattle.decode.specs.Listing.{listing, find, entry_of}
+use Rattle.decode.proofs.Rows.{shared, absent}
+use Rattle.decode.proofs.opivi.Goals as goal
+
+pub returns-in-2 : goal.returns-in-2
+unfolding listing find entry_of
+returns-in-2 c = search (case (entry_of 0b011))
+
+pub returns-in-39 : goal.returns-in-39
+unfolding listing find entry_of
+returns-in-39 c = search (case (entry_of 0b011))
+
+pub returns-in-4-to-7 : goal.returns-in-4-to-7
+unfolding listing find entry_of
+returns-in-4-to-7 c = search (absent 0b011)
+
+pub returns-in-18-to-19 : goal.returns-in-18-to-19
+unfolding listing find entry_of
+returns-in-18-to-19 c = search (absent 0b011)
+
+pub returns-in-26-to-27 : goal.returns-in-26-to-27
+unfolding listing find entry_of
+returns-in-26-to-27 c = search (absent 0b011)
+
+pub returns-in-34-to-35 : goal.returns-in-34-to-35
+unfolding listing find entry_of
+returns-in-34-to-35 c = search (absent 0b011)
+
+pub returns-in_default : goal.returns-in_default
+unfolding listing find entry_of
+returns-in_default c = shared 0b100 0b011 c.args.funct6 _ tt tt c.opivx.ensures
+    (⊎_elim (λ w. omega arith) (⊎_elim (λ w. omega arith)
+    (⊎_elim (λ w. omega arith) (⊎_elim (λ w. omega arith) (λ w. omega arith)))) c.in_default.branch)

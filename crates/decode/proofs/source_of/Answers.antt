@@ -1,0 +1,19 @@
+use Rattle.laws.proofs.Chain.{chain}
+use Rattle.decode.specs.Word.{source_of}
+use Rattle.decode.proofs.source_of.Goals as goal
+
+pub returns-in-3 : goal.returns-in-3
+unfolding source_of
+returns-in-3 c = search chain
+
+pub returns-in-4 : goal.returns-in-4
+unfolding source_of
+returns-in-4 c = search chain
+
+pub returns-in-6 : goal.returns-in-6
+unfolding source_of
+returns-in-6 c = search chain
+
+pub returns-in_default : goal.returns-in_default
+unfolding source_of
+returns-in_default c = search chain

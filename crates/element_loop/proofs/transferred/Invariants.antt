@@ -1,0 +1,11 @@
+use Prim.Native.Nat.{◌-◌}
+use Rattle.layout.proofs.BytesLaws.{slice-bytes}
+use Rattle.element_loop.proofs.LoopLaws.{Going, going-none, transferred-more, next-index, end_fits, rights-length, memory-bound}
+use Rattle.element_loop.proofs.LoopLaws.{next-ready, next-bytes, trap-left, stop-fits, stop-left}
+use Rattle.element_loop.proofs.transferred.Given as goal
+
+abbrev pub invariant-loop-k : goal.invariant-loop-k
+invariant-loop-k l = Going l.board l.e l.initial.registers l.scalars l.initial.memory l.rights l.control l.allowance l.k l.registers l.memory l.control.vxsat
+
+abbrev pub decreases-loop-k : goal.decreases-loop-k
+decreases-loop-k l = l.most - l.k

@@ -1,0 +1,6 @@
+use Rattle.std.proofs.Common.{rules}
+use Rattle.execute.proofs.StepLaws.{set_is}
+use Rattle.execute.proofs.set_at.Goals as goal
+
+pub returns : goal.returns
+returns c = search set_is

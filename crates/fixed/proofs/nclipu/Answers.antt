@@ -1,0 +1,11 @@
+use Rattle.fixed.specs.Fixed.{vnclipu}
+use Rattle.width.proofs.LowBits.{amount-lt}
+use Rattle.fixed.proofs.nclipu.Goals as goal
+
+pub round_unsigned-requires : goal.round_unsigned-requires
+unfolding vnclipu
+round_unsigned-requires c = search amount-lt
+
+pub returns : goal.returns
+unfolding vnclipu
+returns c = cc

@@ -1,0 +1,18 @@
+use Rattle.layout.proofs.WidthLaws.{last-size, last-room}
+use Rattle.layout.proofs.BytesLaws.{read-sized, lt-sized}
+use Rattle.layout.proofs.read_bytes.Goals as goal
+
+pub read8-requires : goal.read8-requires
+read8-requires c = search last-room
+
+pub returns-in-1 : goal.returns-in-1
+returns-in-1 c = search (read-sized, lt-sized)
+
+pub returns-in-2 : goal.returns-in-2
+returns-in-2 c = search (read-sized, lt-sized)
+
+pub returns-in-4 : goal.returns-in-4
+returns-in-4 c = search (read-sized, lt-sized)
+
+pub returns-in_default : goal.returns-in_default
+returns-in_default c = search (read-sized, lt-sized 8, last-size)

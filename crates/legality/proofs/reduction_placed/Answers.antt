@@ -1,0 +1,4 @@
+use Rattle.legality.proofs.reduction_placed.Goals as goal
+
+pub returns : goal.returns
+returns c = rw c.placed.ensures

@@ -1,0 +1,5 @@
+use Rattle.multiply.proofs.MultiplyAddLaws.{add-signed-is}
+use Rattle.multiply.proofs.wmaccsu.Goals as goal
+
+pub returns : goal.returns
+returns c = search add-signed-is

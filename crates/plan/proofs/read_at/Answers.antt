@@ -1,0 +1,39 @@
+use Rattle.plan.specs.Plan.{read_at}
+use Rattle.plan.proofs.OperandLaws.{between, sew-most, eew-most, in_group}
+use Rattle.plan.proofs.read_at.Goals as goal
+
+pub eew-requires : goal.eew-requires
+unfolding read_at
+eew-requires c = search sew-most
+
+pub groups_at-group-requires : goal.groups_at-group-requires
+unfolding read_at
+groups_at-group-requires c = search eew-most
+
+pub returns-in-Absent : goal.returns-in-Absent
+unfolding read_at
+returns-in-Absent c = search (between read_at)
+
+pub returns-in-Bit : goal.returns-in-Bit
+unfolding read_at
+returns-in-Bit c = search (between read_at)
+
+pub returns-in-Eighth : goal.returns-in-Eighth
+unfolding read_at
+returns-in-Eighth c = search in_group
+
+pub returns-in-Quarter : goal.returns-in-Quarter
+unfolding read_at
+returns-in-Quarter c = search in_group
+
+pub returns-in-Half : goal.returns-in-Half
+unfolding read_at
+returns-in-Half c = search in_group
+
+pub returns-in-Single : goal.returns-in-Single
+unfolding read_at
+returns-in-Single c = search in_group
+
+pub returns-in-Double : goal.returns-in-Double
+unfolding read_at
+returns-in-Double c = search in_group

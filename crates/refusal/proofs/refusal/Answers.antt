@@ -1,0 +1,4 @@
+use Rattle.refusal.proofs.refusal.Goals as goal
+
+pub returns : goal.returns
+returns c = cc

@@ -1,0 +1,16 @@
+use mathlib.Core.Path.{◌≡◌}
+use Prim.Native.Nat.{◌-◌, ◌≤◌}
+use Rattle.hexadecimal.specs.Hexadecimal.{all_at}
+use Rattle.hexadecimal.proofs.Laws.{all_none, all_more, reached}
+use Rattle.sheet_read.specs.Sheet.{is_mark, marks_from}
+use borrow.Author.Rules.{rules}
+use Rattle.sheet_read.proofs.marks.Goals as goal
+
+pub loop-i-init : goal.loop-i-init
+loop-i-init c = (search rules, search all_none)
+
+pub loop-i-preserved : goal.loop-i-preserved
+loop-i-preserved c = (search rules, search all_more)
+
+pub returns : goal.returns
+returns c = search (reached (all_at is_mark))

@@ -1,6 +1,0 @@
-use borrow.Author.Rules.{rules}
-use Rattle.text.proofs.put_decimal.Statement.{statement}
-use Rattle.text.proofs.put_decimal.Tie as tie
-
-pub put-decimal-spec : {M : Type 1} → statement M
-put-decimal-spec = tie.close (tie.spec (λ c κs. search rules) (λ c. search rules) (λ c. search rules))

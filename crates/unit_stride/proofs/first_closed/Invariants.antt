@@ -1,0 +1,10 @@
+use Prim.Native.Nat.{suc, ◌-◌}
+use native.Mathlib.Omega.{arith}
+use Rattle.unit_stride.proofs.UnmaskedLaws.{Scanned, scanned-none, scanned-more, scanned-closed, scanned-all}
+use Rattle.unit_stride.proofs.first_closed.Given as goal
+
+abbrev pub invariant-loop-page : goal.invariant-loop-page
+invariant-loop-page l = Scanned l.rights l.right l.first l.last l.page
+
+abbrev pub decreases-loop-page : goal.decreases-loop-page
+decreases-loop-page l = suc l.last - l.page
