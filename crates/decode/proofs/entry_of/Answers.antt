@@ -1,9 +1,30 @@
 use borrow.Author.Tests.{ne_eqb}
 use Rattle.laws.proofs.Chain.{arm}
 use Rattle.decode.specs.Listing.{listing, find, entry_of}
+use borrow.Author.Rules.{rules}
 use Rattle.decode.proofs.entry_of.Goals as goal
 
 -- no row stands in another column
+
+pub opivv-requires : goal.opivv-requires
+unfolding listing find entry_of
+opivv-requires c = search rules
+
+pub opmvv-requires : goal.opmvv-requires
+unfolding listing find entry_of
+opmvv-requires c = search rules
+
+pub opivi-requires : goal.opivi-requires
+unfolding listing find entry_of
+opivi-requires c = search rules
+
+pub opivx-requires : goal.opivx-requires
+unfolding listing find entry_of
+opivx-requires c = search rules
+
+pub opmvx-requires : goal.opmvx-requires
+unfolding listing find entry_of
+opmvx-requires c = search rules
 
 pub returns-in-0 : goal.returns-in-0
 unfolding listing find entry_of

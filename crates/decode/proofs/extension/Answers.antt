@@ -29,4 +29,4 @@ returns-in-7 c = search (case (find vxunary0))
 
 pub returns-in_default : goal.returns-in_default
 unfolding vxunary0 find
-returns-in_default c = missed every_row vxunary0 c.args.vs1 c.in_default.rest
+returns-in_default c = missed every_row vxunary0 c.args.vs1 c.in_default.in_default-own.rest

@@ -25,4 +25,4 @@ returns-in-17 c = search (case (find vmunary0))
 
 pub returns-in_default : goal.returns-in_default
 unfolding vmunary0 find
-returns-in_default c = missed every_row vmunary0 c.args.vs1 c.in_default.rest
+returns-in_default c = missed every_row vmunary0 c.args.vs1 c.in_default.in_default-own.rest

@@ -3,7 +3,12 @@ use native.Mathlib.Omega.{arith}
 use Rattle.laws.proofs.Chain.{case}
 use Rattle.decode.specs.Listing.{listing, find, entry_of}
 use Rattle.decode.proofs.Rows.{shared, absent}
+use borrow.Author.Rules.{rules}
 use Rattle.decode.proofs.opivi.Goals as goal
+
+pub opivx-requires : goal.opivx-requires
+unfolding listing find entry_of
+opivx-requires c = search rules
 
 pub returns-in-2 : goal.returns-in-2
 unfolding listing find entry_of

@@ -165,4 +165,4 @@ returns-in-47 c = search (case (entry_of 0b100))
 
 pub returns-in_default : goal.returns-in_default
 unfolding listing find entry_of
-returns-in_default c = missed (in_column 0b100) listing c.args.funct6 c.in_default.rest
+returns-in_default c = missed (in_column 0b100) listing c.args.funct6 c.in_default.in_default-own.rest

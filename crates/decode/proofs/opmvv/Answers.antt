@@ -205,4 +205,4 @@ returns-in-63 c = search (case (entry_of 0b010))
 
 pub returns-in_default : goal.returns-in_default
 unfolding listing find entry_of
-returns-in_default c = missed (in_column 0b010) listing c.args.funct6 c.in_default.rest
+returns-in_default c = missed (in_column 0b010) listing c.args.funct6 c.in_default.in_default-own.rest

@@ -3,7 +3,12 @@ use native.Mathlib.Omega.{arith}
 use Rattle.laws.proofs.Chain.{case}
 use Rattle.decode.specs.Listing.{listing, find, entry_of}
 use Rattle.decode.proofs.Rows.{shared, absent}
+use borrow.Author.Rules.{rules}
 use Rattle.decode.proofs.opmvx.Goals as goal
+
+pub opmvv-requires : goal.opmvv-requires
+unfolding listing find entry_of
+opmvv-requires c = search rules
 
 pub returns-in-14 : goal.returns-in-14
 unfolding listing find entry_of

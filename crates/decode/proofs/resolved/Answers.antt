@@ -1,7 +1,36 @@
 use Rattle.laws.proofs.Chain.{arm}
 use Rattle.decode.specs.Word.{resolved_of}
 use Rattle.decode.proofs.Rows.{looked-up}
+use borrow.Author.Rules.{rules}
 use Rattle.decode.proofs.resolved.Goals as goal
+
+pub merge_or_move-requires : goal.merge_or_move-requires
+unfolding resolved_of
+merge_or_move-requires c = search rules
+
+pub rs1-requires : goal.rs1-requires
+unfolding resolved_of
+rs1-requires c = search rules
+
+pub extension-requires : goal.extension-requires
+unfolding resolved_of
+extension-requires c = search rules
+
+pub rs1-requires-in-Vwxunary0 : goal.rs1-requires-in-Vwxunary0
+unfolding resolved_of
+rs1-requires-in-Vwxunary0 c = search rules
+
+pub to_scalar-requires : goal.to_scalar-requires
+unfolding resolved_of
+to_scalar-requires c = search rules
+
+pub rs1-requires-in-Vmunary0 : goal.rs1-requires-in-Vmunary0
+unfolding resolved_of
+rs1-requires-in-Vmunary0 c = search rules
+
+pub on_mask-requires : goal.on_mask-requires
+unfolding resolved_of
+on_mask-requires c = search rules
 
 pub returns-in-MergeOrMove : goal.returns-in-MergeOrMove
 unfolding resolved_of

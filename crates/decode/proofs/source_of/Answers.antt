@@ -1,6 +1,15 @@
 use Rattle.laws.proofs.Chain.{chain}
 use Rattle.decode.specs.Word.{source_of}
+use borrow.Author.Rules.{rules}
 use Rattle.decode.proofs.source_of.Goals as goal
+
+pub rs1-field-requires : goal.rs1-field-requires
+unfolding source_of
+rs1-field-requires c = search rules
+
+pub funct3-requires : goal.funct3-requires
+unfolding source_of
+funct3-requires c = search rules
 
 pub returns-in-3 : goal.returns-in-3
 unfolding source_of

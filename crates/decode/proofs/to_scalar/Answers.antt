@@ -17,4 +17,4 @@ returns-in-17 c = search (case (find vwxunary0))
 
 pub returns-in_default : goal.returns-in_default
 unfolding vwxunary0 find
-returns-in_default c = missed every_row vwxunary0 c.args.vs1 c.in_default.rest
+returns-in_default c = missed every_row vwxunary0 c.args.vs1 c.in_default.in_default-own.rest

@@ -1,6 +1,11 @@
 use Rattle.laws.proofs.Chain.{chain}
 use Rattle.decode.specs.Word.{width_of}
+use borrow.Author.Rules.{rules}
 use Rattle.decode.proofs.width_of.Goals as goal
+
+pub funct3-requires : goal.funct3-requires
+unfolding width_of
+funct3-requires c = search rules
 
 pub returns-in-0 : goal.returns-in-0
 unfolding width_of

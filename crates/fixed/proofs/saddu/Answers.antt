@@ -1,7 +1,12 @@
 use native.Mathlib.Omega.{arith}
 use Rattle.fixed.specs.Fixed.{vsaddu}
 use Rattle.fixed.proofs.ClipLaws.{unsigned-over, unsigned-within}
+use borrow.Author.Rules.{rules}
 use Rattle.fixed.proofs.saddu.Goals as goal
+
+pub ones-m-requires : goal.ones-m-requires
+unfolding vsaddu
+ones-m-requires c = search rules
 
 pub returns-then-m-a : goal.returns-then-m-a
 unfolding vsaddu

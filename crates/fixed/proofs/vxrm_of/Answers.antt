@@ -13,4 +13,4 @@ pub returns-in-2 : goal.returns-in-2
 returns-in-2 c = sym (ap vxrm_of c.in-2.is)
 
 pub returns-in_default : goal.returns-in_default
-returns-in_default c = let n = c.args.vxrm in let r = c.in_default.rest in rw (ne_eqb n 0 r.0.0.1, ne_eqb n 1 r.0.1, ne_eqb n 2 r.1)
+returns-in_default c = let n = c.args.vxrm in let r = c.in_default.in_default-own.rest in rw (ne_eqb n 0 r.0.0.1, ne_eqb n 1 r.0.1, ne_eqb n 2 r.1)

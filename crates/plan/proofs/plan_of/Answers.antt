@@ -8,6 +8,18 @@ use Rattle.plan.proofs.PlanLaws.{planned, planned-by}
 use borrow.Author.Rules.{rules}
 use Rattle.plan.proofs.plan_of.Goals as goal
 
+pub reducing-requires : goal.reducing-requires
+unfolding plan_of
+reducing-requires c = search rules
+
+pub packing_at-requires : goal.packing_at-requires
+unfolding plan_of
+packing_at-requires c = search rules
+
+pub scalar_moving-requires : goal.scalar_moving-requires
+unfolding plan_of
+scalar_moving-requires c = search rules
+
 pub computing-requires : goal.computing-requires
 unfolding plan_of
 computing-requires c = search (rules, variant_fits Fits I.Arithmetic)

@@ -1,6 +1,11 @@
 use Rattle.plan.specs.Plan.{read_at}
 use Rattle.plan.proofs.OperandLaws.{between, sew-most, eew-most, in_group}
+use borrow.Author.Rules.{rules}
 use Rattle.plan.proofs.read_at.Goals as goal
+
+pub sew-sew-requires : goal.sew-sew-requires
+unfolding read_at
+sew-sew-requires c = search rules
 
 pub eew-requires : goal.eew-requires
 unfolding read_at

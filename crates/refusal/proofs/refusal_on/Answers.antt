@@ -8,6 +8,7 @@ use Rattle.answer.specs.declared.Answer.{Answer}
 use Rattle.answer.specs.declared.Verdict.{Verdict}
 use Rattle.answer.specs.declared.Verdict.TheVariants.{Refused}
 use Rattle.refusal.specs.Refusal.{refusal_of}
+use borrow.Author.Rules.{rules}
 use Rattle.refusal.proofs.refusal_on.Goals as goal
 
 refused : (t : Bool) (a : Answer) (v : Verdict) → t ≡ true → Refused a ≡ cond t (Refused a) v
@@ -49,9 +50,17 @@ pub returns-then-rights-ne256 : goal.returns-then-rights-ne256
 unfolding refusal_of
 returns-then-rights-ne256 c = search ways
 
+pub rights_fit-requires : goal.rights_fit-requires
+unfolding refusal_of
+rights_fit-requires c = search rules
+
 pub returns-then-not-rights_fit : goal.returns-then-not-rights_fit
 unfolding refusal_of
 returns-then-not-rights_fit c = search ways
+
+pub possible-requires : goal.possible-requires
+unfolding refusal_of
+possible-requires c = search rules
 
 pub returns-then-not-possible : goal.returns-then-not-possible
 unfolding refusal_of

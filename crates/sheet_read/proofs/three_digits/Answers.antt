@@ -1,7 +1,12 @@
 use Rattle.laws.proofs.Chain.{chain}
 use Rattle.sheet_read.specs.Sheet.{three_digits}
 use Rattle.sheet_read.proofs.LineLaws.{decimal-from, three-yes, three-no}
+use borrow.Author.Rules.{rules}
 use Rattle.sheet_read.proofs.three_digits.Goals as goal
+
+pub is_decimal-requires : goal.is_decimal-requires
+unfolding three_digits
+is_decimal-requires c = search rules
 
 pub returns-then-not-is_decimal : goal.returns-then-not-is_decimal
 unfolding three_digits

@@ -2,10 +2,15 @@ use Prim.Native.Nat.{◌≤◌}
 use Rattle.laws.proofs.Chain.{chain}
 use Rattle.sheet_read.specs.Sheet.{up_to_128}
 use Rattle.sheet_read.proofs.LineLaws.{decimal-from, no_zero}
+use borrow.Author.Rules.{rules}
 use Rattle.sheet_read.proofs.up_to_128.Goals as goal
 
 second : (c : tie.Else4) → 48 ≤ c.before.before.before.before.before.before.args.e
 second c = decimal-from _ _ c.before.is-decimal2.ensures c.if4.false
+
+pub is_decimal-requires : goal.is_decimal-requires
+unfolding up_to_128
+is_decimal-requires c = search rules
 
 pub returns-then-not-is_decimal : goal.returns-then-not-is_decimal
 unfolding up_to_128
@@ -22,6 +27,10 @@ overflow_sub-result c = search decimal-from
 pub returns-then-e-eq10 : goal.returns-then-e-eq10
 unfolding up_to_128
 returns-then-e-eq10 c = search chain
+
+pub is_decimal-requires-2 : goal.is_decimal-requires-2
+unfolding up_to_128
+is_decimal-requires-2 c = search rules
 
 pub returns-then-not-is_decimal-2 : goal.returns-then-not-is_decimal-2
 unfolding up_to_128

@@ -19,7 +19,7 @@ pub returns : goal.returns
 returns c =
     let a : ℕ = c.args.a in
     let b : ℕ = c.args.b in
-    c.wrapping_add_u64.ensures
-    ∙ ap (λ (x : ℕ). (a % 2 ^ 32 * (b % 2 ^ 32) + (x * 2 ^ 32) % 2 ^ 64) % 2 ^ 64) c.wrapping_add_u64-mixed.ensures
+    c.wrapping_add_u64.ensures.value
+    ∙ ap (λ (x : ℕ). (a % 2 ^ 32 * (b % 2 ^ 32) + (x * 2 ^ 32) % 2 ^ 64) % 2 ^ 64) c.wrapping_add_u64-mixed.ensures.value
     ∙ halves (a / 2 ^ 32) (a % 2 ^ 32) (b / 2 ^ 32) (b % 2 ^ 32)
     ∙ ap₂ (λ (x y : ℕ). x * y % 2 ^ 64) (split a 32) (split b 32)

@@ -7,4 +7,4 @@ returns c =
     let a = c.args in
     c.low.ensures
     ∙ sub_low a.sew a.a a.b c.wrapping_sub_u64.result c.requires.most
-    c.wrapping_sub_u64.ensures
+    c.wrapping_sub_u64.ensures.value
