@@ -43,29 +43,25 @@ module _ (rm : Vxrm) (d last lost u : ℕ) (some : d ≡ 0 → ⊥) (u-is : u �
   unfolding increment
   rne-lower r k = rw (positive, r, ← u-is, ne_eqb (lost % u) 0 k)
 
-  pub rne-odd : (t : Bool) → rm ≡ Rne → lost % u ≡ 0 → t ≡ eqb last 1 → t ≡ true → lost / u ≡ increment rm d last lost
+  pub rne-odd : rm ≡ Rne → lost % u ≡ 0 → last ≡ 1 → lost / u ≡ increment rm d last lost
   unfolding increment
-  rne-odd t r k l e = rw (positive, r, ← u-is, eq-eqb (lost % u) 0 k, ← l, e)
+  rne-odd r k l = rw (positive, r, ← u-is, eq-eqb (lost % u) 0 k, eq-eqb last 1 l)
 
-  -- a lower lost bit makes the test hold, so this is never so
-  pub rne-none : (t : Bool) → (lost % u ≡ 0 → ⊥) → t ≡ not (eqb (lost % u) 0) → t ≡ false → 0 ≡ increment rm d last lost
-  rne-none t k l e = absurd (true≢false (ap not (sym (ne_eqb (lost % u) 0 k)) ∙ sym l ∙ e))
-
-  pub rne-even : (t : Bool) → rm ≡ Rne → lost % u ≡ 0 → t ≡ eqb last 1 → t ≡ false → 0 ≡ increment rm d last lost
+  pub rne-even : rm ≡ Rne → lost % u ≡ 0 → (last ≡ 1 → ⊥) → 0 ≡ increment rm d last lost
   unfolding increment
-  rne-even t r k l e = rw (positive, r, ← u-is, eq-eqb (lost % u) 0 k, ← l, e)
+  rne-even r k l = rw (positive, r, ← u-is, eq-eqb (lost % u) 0 k, ne_eqb last 1 l)
 
   pub rdn : rm ≡ Rdn → 0 ≡ increment rm d last lost
   unfolding increment
   rdn r = rw (positive, r)
 
-  pub rod-none : rm ≡ Rod → last ≡ 0 → not (eqb lost 0) ≡ false → 0 ≡ increment rm d last lost
+  pub rod-none : rm ≡ Rod → last ≡ 0 → lost ≡ 0 → 0 ≡ increment rm d last lost
   unfolding increment
   rod-none r l k = rw (positive, r, l, k)
 
-  pub rod-some : rm ≡ Rod → last ≡ 0 → not (eqb lost 0) ≡ true → 1 ≡ increment rm d last lost
+  pub rod-some : rm ≡ Rod → last ≡ 0 → (lost ≡ 0 → ⊥) → 1 ≡ increment rm d last lost
   unfolding increment
-  rod-some r l k = rw (positive, r, l, k)
+  rod-some r l k = rw (positive, r, l, ne_eqb lost 0 k)
 
   pub rod-odd : rm ≡ Rod → (last ≡ 0 → ⊥) → 0 ≡ increment rm d last lost
   unfolding increment

@@ -1,5 +1,5 @@
 use mathlib.Core.Logic.{⊎_elim}
-use Rattle.fixed.proofs.RoundLaws.{unit-pos, none, rnu, rne-lower, rne-odd, rne-none, rne-even, rdn, rod-none, rod-some, rod-odd}
+use Rattle.fixed.proofs.RoundLaws.{unit-pos, none, rnu, rne-lower, rne-odd, rne-even, rdn, rod-none, rod-some, rod-odd}
 use Rattle.fixed.proofs.increment_of.Goals as goal
 
 pub returns-then-d-eq0 : goal.returns-then-d-eq0
@@ -15,10 +15,10 @@ pub returns-in-Rnu : goal.returns-in-Rnu
 returns-in-Rnu c = search rnu
 
 pub returns-then-last-eq1 : goal.returns-then-last-eq1
-returns-then-last-eq1 c = ⊎_elim (λ w. search rne-lower) (λ w. search rne-odd) c.if-lower-ne0.branch
+returns-then-last-eq1 c = ⊎_elim (λ w. search rne-lower) (λ w. search rne-odd) c.if-last-eq1.either
 
 pub returns-else-last-eq1 : goal.returns-else-last-eq1
-returns-else-last-eq1 c = ⊎_elim (λ w. search rne-none) (λ w. search rne-even) c.if-lower-ne0.branch
+returns-else-last-eq1 c = search rne-even
 
 pub returns-in-Rdn : goal.returns-in-Rdn
 returns-in-Rdn c = search rdn
@@ -27,4 +27,4 @@ pub returns-then-lost-ne0 : goal.returns-then-lost-ne0
 returns-then-lost-ne0 c = search rod-some
 
 pub returns-else-last-eq0 : goal.returns-else-last-eq0
-returns-else-last-eq0 c = ⊎_elim (λ w. search rod-none) (λ w. search rod-odd) c.else-last-eq0.branch
+returns-else-last-eq0 c = ⊎_elim (λ w. search rod-none) (λ w. search rod-odd) c.else-last-eq0.either
