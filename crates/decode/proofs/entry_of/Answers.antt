@@ -54,7 +54,7 @@ pub returns-in_default : goal.returns-in_default
 unfolding listing find entry_of
 returns-in_default c =
     let f = c.args.funct3 in
-    let n = c.in_default.rest in
+    let n = c.in_default.in_default-own.rest in
     let m = n.0.0.0 in
     simp (
       ne_eqb f 0b111 n.1,

@@ -1,10 +1,10 @@
-use mathlib.Core.Logic.{⊎_elim}
 use native.Mathlib.Omega.{arith}
 use Rattle.laws.proofs.Chain.{case}
 use Rattle.decode.specs.Listing.{listing, find, entry_of}
 use Rattle.decode.proofs.Rows.{shared, absent}
 use borrow.Author.Rules.{rules}
 use Rattle.decode.proofs.opivv.Goals as goal
+use Rattle.decode.proofs.opivv.Goals.{in_default-via-then-funct6-lt30, in_default-via-else-funct6-lt30+else-funct6-lt32}
 
 pub opivx-requires : goal.opivx-requires
 unfolding listing find entry_of
@@ -37,4 +37,4 @@ returns-in-30-to-31 c = search (absent 0b000)
 pub returns-in_default : goal.returns-in_default
 unfolding listing find entry_of
 returns-in_default c = shared 0b100 0b000 c.args.funct6 _ tt tt c.opivx.ensures
-    (⊎_elim (λ w. omega arith) (λ w. omega arith) c.in_default.branch)
+    (elim c.in_default.branch [ in_default-via-then-funct6-lt30 w ↦ omega arith | in_default-via-else-funct6-lt30+else-funct6-lt32 w ↦ omega arith ])

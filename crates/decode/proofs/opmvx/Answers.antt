@@ -1,10 +1,10 @@
-use mathlib.Core.Logic.{⊎_elim}
 use native.Mathlib.Omega.{arith}
 use Rattle.laws.proofs.Chain.{case}
 use Rattle.decode.specs.Listing.{listing, find, entry_of}
 use Rattle.decode.proofs.Rows.{shared, absent}
 use borrow.Author.Rules.{rules}
 use Rattle.decode.proofs.opmvx.Goals as goal
+use Rattle.decode.proofs.opmvx.Goals.{in_default-via-then-funct6-lt23, in_default-via-else-funct6-lt23+else-funct6-lt32}
 
 pub opmvv-requires : goal.opmvv-requires
 unfolding listing find entry_of
@@ -45,4 +45,4 @@ returns-in-23-to-31 c = search (absent 0b110)
 pub returns-in_default : goal.returns-in_default
 unfolding listing find entry_of
 returns-in_default c = shared 0b010 0b110 c.args.funct6 _ tt tt c.opmvv.ensures
-    (⊎_elim (λ w. omega arith) (λ w. omega arith) c.in_default.branch)
+    (elim c.in_default.branch [ in_default-via-then-funct6-lt23 w ↦ omega arith | in_default-via-else-funct6-lt23+else-funct6-lt32 w ↦ omega arith ])
