@@ -4,7 +4,8 @@ use borrow.Author.Rules.{rules}
 use Rattle.permutation.proofs.permute.Goals as goal
 
 pub returns-then-stays : goal.returns-then-stays
-returns-then-stays c = let given = c.args in
+returns-then-stays c = λ memory x d.
+    let given = c.args in
     stayed _ _ memory x d given.e given.p _ _ _ c.value-x.ensures c.stays.ensures c.if-stays.true
 
 pub permuted-z-requires : goal.permuted-z-requires
@@ -14,4 +15,4 @@ pub write_element-requires : goal.write_element-requires
 write_element-requires c = search first-inside
 
 pub returns : goal.returns
-returns c = search moved
+returns c = λ memory x d. search moved

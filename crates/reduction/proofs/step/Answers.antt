@@ -6,7 +6,7 @@ pub joined-requires : goal.joined-requires
 joined-requires c = search joinable
 
 pub returns-then-active : goal.returns-then-active
-returns-then-active c = (search active-step, search active-fits)
+returns-then-active c = record { value = search active-step; upper_bound = search active-fits }
 
 pub returns : goal.returns
-returns c = (search inactive-step, search rules)
+returns c = record { value = search inactive-step; upper_bound = search rules }

@@ -7,4 +7,4 @@ pub returns-then-next-page : goal.returns-then-next-page
 returns-then-next-page c = search (tally-new, rules)
 
 pub returns : goal.returns
-returns c = ⊎_elim (λ w. search (tally-seen, rules)) (λ w. search (tally-untested, rules)) c.else-tested.branch
+returns c = ⊎_elim (λ w. search (tally-seen, rules)) (λ w. search (tally-untested, rules)) c.else-tested.either

@@ -1,4 +1,4 @@
-use Rattle.std.proofs.Common.{ℕ, ◌-◌, ℤ, negsuc, ◌-ℤ◌, nat_abs, sym, ap, ◌∙◌, arith, w64, SFits, to_z, of_z, rules}
+use Rattle.std.proofs.Common.{ℕ, ◌-◌, ℤ, negsuc, ◌-ℤ◌, nat_abs, sym, ap, ◌∙◌, arith, w64, SFits, to_z, of_z}
 use mathlib.Core.Path.{subst⁻¹}
 use lib.Bits.{bit_and, and_le_r}
 use Rattle.width.specs.Width.{wrap}

@@ -1,4 +1,3 @@
-use Rattle.std.proofs.Common.{rules}
 use Rattle.width.proofs.LowBits.{and-ones}
 use Rattle.width.proofs.low.Goals as goal
 

@@ -1,4 +1,4 @@
-use Rattle.std.proofs.Common.{ℕ, ◌+◌, ◌-◌, ◌^◌, ap, ◌∙◌, add-one, rules}
+use Rattle.std.proofs.Common.{ℕ, ◌+◌, ◌-◌, ◌^◌, ap, ◌∙◌, add-one}
 use lib.Pow.{suc_ones}
 use Rattle.width.proofs.LowBits.{ones_shr}
 use Rattle.width.proofs.ones.Goals as goal

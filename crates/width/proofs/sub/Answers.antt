@@ -1,4 +1,4 @@
-use Rattle.std.proofs.Common.{◌∙◌, rules}
+use Rattle.std.proofs.Common.{◌∙◌}
 use Rattle.width.proofs.WrapLaws.{sub_low}
 use Rattle.width.proofs.sub.Goals as goal
 

@@ -1,4 +1,4 @@
-use Rattle.std.proofs.Common.{◌≡◌, ℕ, ◌-◌, ◌^◌, ◌<◌, ℤ, negsuc, ◌-ℤ◌, sym, ap, ◌∙◌, arith, to_z-of_z, w64, SFits, to_z, of_z, rules}
+use Rattle.std.proofs.Common.{◌≡◌, ℕ, ◌-◌, ◌^◌, ◌<◌, ℤ, negsuc, ◌-ℤ◌, sym, ap, ◌∙◌, arith, to_z-of_z, w64, SFits, to_z, of_z}
 use mathlib.Core.Path.{subst⁻¹}
 use mir.Facts.{to_z_pos}
 use Rattle.width.proofs.SignedLaws.{signed_low, signed-neg, comp-pos}
