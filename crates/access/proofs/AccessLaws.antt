@@ -13,8 +13,8 @@ use Rattle.access.specs.Access.{page_of, needed, wanted_at, nothing_wanted, faul
 use Rattle.access.specs.Access.{fields_access}
 
 -- the address is a multiple of the size
-pub is-aligned : (a n : ℕ) (t : Bool) → t ≡ eqb (a % n) 0 → not t ≡ false → a % n ≡ 0
-is-aligned a n t e f = eqb-true (a % n) 0 (sym e ∙ not-false t f)
+pub is-aligned : (a n : ℕ) (t : Bool) → t ≡ eqb (a % n) 0 → t ≡ true → a % n ≡ 0
+is-aligned a n t e f = eqb-true (a % n) 0 (sym e ∙ f)
 
 -- an aligned element ends below 2 ^ 64
 pub last_fits : (a n : ℕ) → T (byte_size n) → a % n ≡ 0 → Fits w64 a → Fits w64 (a + (n - 1))
@@ -68,7 +68,7 @@ module _ (rights : List ℕ) (memory : ℕ) (store : Bool) (a n : ℕ) where
 
   -- ---- the test by its outcomes
 
-  pub faults-misaligned : (r : AccessTest) (x : Answer) (t : Bool) → t ≡ eqb (a % n) 0 → not t ≡ true → x ≡ misaligned store
+  pub faults-misaligned : (r : AccessTest) (x : Answer) (t : Bool) → t ≡ eqb (a % n) 0 → t ≡ false → x ≡ misaligned store
       → r ≡ fault_at x a nothing_wanted
       → r ≡ access_of rights memory store a n
   unfolding access_of

@@ -232,12 +232,12 @@ module _ (b : Board) (word : ℕ) (file x memory rights : List ℕ) (c : Control
   module _ (v : Verdict) (d : Instruction) (u : Bool)
       (q : v ≡ refusal_of b (length file) (length x) (length memory) rights c) (h : v ≡ Accepted) (k : d ≡ decode_of word)
       (i : u ≡ is_unit_stride d) where
-    pub other_word : (r : Checked) → not u ≡ true → r ≡ nothing_tested Illegal → r ≡ access_check_of b word before
-    other_word r n e = e ∙ other-check b word before (sym q ∙ h) (ap is_unit_stride (sym k) ∙ sym i ∙ not-true u n)
+    pub other_word : (r : Checked) → u ≡ false → r ≡ nothing_tested Illegal → r ≡ access_check_of b word before
+    other_word r n e = e ∙ other-check b word before (sym q ∙ h) (ap is_unit_stride (sym k) ∙ sym i ∙ n)
 
-    module _ (n : not u ≡ false) (p : Plan) (w : p ≡ checked_of b c (plan_of b x c d)) where
+    module _ (n : u ≡ true) (p : Plan) (w : p ≡ checked_of b c (plan_of b x c d)) where
       is-unit : is_unit_stride d ≡ true
-      is-unit = sym i ∙ not-false u n
+      is-unit = sym i ∙ n
 
       pub illegal-word : (r : Checked) → p ≡ P.Illegal → r ≡ nothing_tested Illegal → r ≡ access_check_of b word before
       illegal-word r f e =

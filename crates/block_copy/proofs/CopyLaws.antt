@@ -261,17 +261,17 @@ module _ (b : Board) (rights : List ℕ) (size memory : ℕ) (e : Elementwise) (
     pub at-fits : Fits w64 (place_of b e t v)
     at-fits = record { fits = omega (arith, file-room) }
 
-  module _ (a : ℕ) (p : a ≡ element_address t v 0) (r : Bool) (y : AllGranted rights memory t v n r) (u : not r ≡ false) where
+  module _ (a : ℕ) (p : a ≡ element_address t v 0) (r : Bool) (y : AllGranted rights memory t v n r) (u : r ≡ true) where
     begins : a + t.bytes ≤ memory
     begins =
-        rw p (rw (add-zero v) at (granted-facts rights memory t.store (element_address t (v + 0) 0) t.bytes (y.each (not-false r u) 0 some)).inside)
+        rw p (rw (add-zero v) at (granted-facts rights memory t.store (element_address t (v + 0) 0) t.bytes (y.each u 0 some)).inside)
 
     address : (j : ℕ) → j < n → a + j * t.bytes ≡ element_address t (v + j) 0
     address j l =
         rw p (sym (onward rights memory t v n is-packed v j (omega (arith, g.few)) (rw (← p) (omega (arith, begins)))))
 
     element-granted : (j : ℕ) → j < n → access_of rights memory t.store (a + j * t.bytes) t.bytes ≡ Granted
-    element-granted j l = rw (address j l) (y.each (not-false r u) j l)
+    element-granted j l = rw (address j l) (y.each u j l)
 
     pub memory-room : a + n * t.bytes ≤ memory
     memory-room =
@@ -285,7 +285,7 @@ module _ (b : Board) (rights : List ℕ) (size memory : ℕ) (e : Elementwise) (
 
 module _ (b : Board) (rights file memory : List ℕ) (e : Elementwise) (t : Transfer) (v n : ℕ)
     (g : Copyable b (length file) rights (length memory) e t v n) (i : Bool) (k : i ≡ in_order_of e t) (h : (eqb n 0 || not i) ≡ false)
-    (a : ℕ) (p : a ≡ element_address t v 0) (r : Bool) (y : AllGranted rights (length memory) t v n r) (u : not r ≡ false)
+    (a : ℕ) (p : a ≡ element_address t v 0) (r : Bool) (y : AllGranted rights (length memory) t v n r) (u : r ≡ true)
     (w : Bytes file) (z : Bytes memory) (x : List ℕ) (c : Control) where
   abbrev at : ℕ
   at = place_of b e t v

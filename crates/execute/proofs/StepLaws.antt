@@ -208,13 +208,13 @@ transfers-at vlenb rights s s' t g r a i o p e h d = rw (h, e) at d
 
 module _ (b : Board) (rights : List ℕ) (s : Core) (e : Elementwise) (i : ℕ) (t : Bool)
     (p : t ≡ active_of b.vlenb s.registers e.masked i) where
-  pub masked_off : not t ≡ true → Did b.vlenb (effect_of b rights s e i) s Granted s
+  pub masked_off : t ≡ false → Did b.vlenb (effect_of b rights s e i) s Granted s
   unfolding effect_of
-  masked_off n = let h = sym p ∙ not-true t n in record { check = rw h; state = rw h }
+  masked_off n = let h = sym p ∙ n in record { check = rw h; state = rw h }
 
-  pub acted : {v : Action} {r : AccessTest} {s' : Core} → not t ≡ false → e.action ≡ v → Did b.vlenb (acting_of b rights s e i v) s r s'
+  pub acted : {v : Action} {r : AccessTest} {s' : Core} → t ≡ true → e.action ≡ v → Did b.vlenb (acting_of b rights s e i v) s r s'
       → Did b.vlenb (effect_of b rights s e i) s r s'
   unfolding effect_of
   acted {r = r} {s'} n q d =
-      let h = sym p ∙ not-false t n in
+      let h = sym p ∙ n in
       rw h (subst (λ (a : Action). Did b.vlenb (acting_of b rights s e i a) s r s') (sym q) d)

@@ -34,11 +34,11 @@ pub counted : (k r m : ℕ) (v : Bool) → r ≡ k → eqb r m ≡ v → eqb k m
 counted k r m v e h = known k r m v (sym e) h
 
 -- a test that a call has answered, in `if !call(..)`
-pub denied : (b r : Bool) → r ≡ b → not r ≡ true → b ≡ false
-denied b r e h = sym e ∙ not-true r h
+pub denied : (b r : Bool) → r ≡ b → r ≡ false → b ≡ false
+denied b r e h = sym e ∙ h
 
-pub granted : (b r : Bool) → r ≡ b → not r ≡ false → b ≡ true
-granted b r e h = sym e ∙ not-false r h
+pub granted : (b r : Bool) → r ≡ b → r ≡ true → b ≡ true
+granted b r e h = sym e ∙ h
 
 pub and_yes : (p q : Bool) → p ≡ true → q ≡ true → (p && q) ≡ true
 and_yes p q h k = rw (h, k)

@@ -68,15 +68,15 @@ module _ (b : Board) (c : Control) where
   unfolding legal_of
   legal-off p off v t = rw (← v, t)
 
-  pub legal-not : (p : Plan) (off kind : Bool) → off ≡ is_off c → off ≡ false → kind ≡ kind_legal b c p → not kind ≡ true
+  pub legal-not : (p : Plan) (off kind : Bool) → off ≡ is_off c → off ≡ false → kind ≡ kind_legal b c p → kind ≡ false
       → false ≡ legal_of b c p
   unfolding legal_of
-  legal-not p off kind v t h n = rw (← v, t, ← h, not-true kind n)
+  legal-not p off kind v t h n = rw (← v, t, ← h, n)
 
-  pub legal-is : (p : Plan) (s : Sources) (off kind fit : Bool) → off ≡ is_off c → off ≡ false → kind ≡ kind_legal b c p → not kind ≡ false
+  pub legal-is : (p : Plan) (s : Sources) (off kind fit : Bool) → off ≡ is_off c → off ≡ false → kind ≡ kind_legal b c p → kind ≡ true
       → listed s ≡ sources_of p → fit ≡ sources_fit (listed s) → fit ≡ legal_of b c p
   unfolding legal_of
-  legal-is p s off kind fit v t h n e k = rw (← v, t, ← h, not-false kind n, k, e)
+  legal-is p s off kind fit v t h n e k = rw (← v, t, ← h, n, k, e)
 
   -- of a plan that is legal: VS is not Off, and every other rule
   pub on-of-legal : (p : Plan) → legal_of b c p ≡ true → not (is_off c) ≡ true

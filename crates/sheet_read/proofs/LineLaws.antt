@@ -73,7 +73,7 @@ line-is p q p' q' b b' h k e = rw (h, k, e)
 
 -- ---- decimal digits
 
-pub decimal-from : (d : ℕ) (r : Bool) → r ≡ is_decimal d → not r ≡ false → 48 ≤ d
+pub decimal-from : (d : ℕ) (r : Bool) → r ≡ is_decimal d → r ≡ true → 48 ≤ d
 decimal-from d r e h = leb-true 48 d (both_left (leb 48 d) (leb d 57) (granted (is_decimal d) r e h))
 
 -- "no leading zero"
@@ -85,18 +85,18 @@ abbrev hundreds : ℕ → ℕ → ℕ → ℕ
 hundreds d e f = 100 * (d - 48) + 10 * (e - 48) + (f - 48)
 
 -- three digits, by the test after the third
-three : (d e f g : ℕ) (r : Bool) → r ≡ is_decimal f → not r ≡ false
+three : (d e f g : ℕ) (r : Bool) → r ≡ is_decimal f → r ≡ true
     → three_digits d e f g ≡ cond (eqb g 10 && leb (hundreds d e f) most_allow) (hundreds d e f) 0
 unfolding three_digits
 three d e f g r p h =
     let x : 10 * tens d e + (f - 48) ≡ hundreds d e f = omega arith in
     rw (granted (is_decimal f) r p h, x)
 
-pub three-yes : (d e f g : ℕ) (r : Bool) → r ≡ is_decimal f → not r ≡ false → (eqb g 10 && leb (hundreds d e f) most_allow) ≡ true
+pub three-yes : (d e f g : ℕ) (r : Bool) → r ≡ is_decimal f → r ≡ true → (eqb g 10 && leb (hundreds d e f) most_allow) ≡ true
     → hundreds d e f ≡ three_digits d e f g
 three-yes d e f g r p h k = rw (three d e f g r p h, k)
 
-pub three-no : (d e f g : ℕ) (r : Bool) → r ≡ is_decimal f → not r ≡ false → (eqb g 10 && leb (hundreds d e f) most_allow) ≡ false
+pub three-no : (d e f g : ℕ) (r : Bool) → r ≡ is_decimal f → r ≡ true → (eqb g 10 && leb (hundreds d e f) most_allow) ≡ false
     → 0 ≡ three_digits d e f g
 three-no d e f g r p h k = rw (three d e f g r p h, k)
 

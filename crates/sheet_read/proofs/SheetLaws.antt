@@ -47,14 +47,14 @@ next s at k h =
     rw e
 
 module _ (s : List ℕ) (at k : ℕ) where
-  pub counted-more : (r : Bool) → k < most_words → Counted s at k → r ≡ word_line s (after_words at k) → not r ≡ false → Counted s at (k + 1)
+  pub counted-more : (r : Bool) → k < most_words → Counted s at k → r ≡ word_line s (after_words at k) → r ≡ true → Counted s at (k + 1)
   counted-more r h e p q =
       let a : after_words at k + word_length ≡ after_words at (k + 1) = omega arith in
       let x : count_at s (after_words at k) (most_words - k) ≡ suc (count_at s (after_words at (k + 1)) (most_words - (k + 1))) =
       next s (after_words at k) k h ∙ rw (granted (word_line s (after_words at k)) r p q, a) in
       omega arith
 
-  pub counted_stop : (r : Bool) → Counted s at k → r ≡ word_line s (after_words at k) → not r ≡ true → k ≡ count_at s at most_words
+  pub counted_stop : (r : Bool) → Counted s at k → r ≡ word_line s (after_words at k) → r ≡ false → k ≡ count_at s at most_words
   counted_stop r e p q = omega (arith, stops s (after_words at k) (most_words - k) (denied (word_line s (after_words at k)) r p q))
 
   pub counted-full : k ≤ most_words → most_words ≤ k → Counted s at k → k ≡ count_at s at most_words
@@ -67,7 +67,7 @@ module _ (s : List ℕ) (at k : ℕ) where
 -- ---- from the first word on
 
 -- "any byte after the newline of end=1"
-pub more-after : (s : List ℕ) (at k : ℕ) (r : Bool) → (k ≡ 0 → ⊥) → r ≡ begins s (after_words at k) (ascii "end=1\n") → not r ≡ false
+pub more-after : (s : List ℕ) (at k : ℕ) (r : Bool) → (k ≡ 0 → ⊥) → r ≡ begins s (after_words at k) (ascii "end=1\n") → r ≡ true
     → after_words at k + length (ascii "end=1\n") < length s → 7 + k ≡ bad_end s at k
 unfolding bad_end
 more-after s at k r z p h l =

@@ -125,6 +125,7 @@ digit-high d r h e = rw (le-ltb d 10 h) e
 pub digit-less : {o s o1 o2 : List ℕ} {a d a1 a2 : ℕ} (n x k : ℕ) → 0 < n → Left o a s o1 a1 (hex n x)
     → d ≡ hex_digit (x / 2 ^ k % 16) → k ≡ 4 * (n - 1) → Wrote o1 a1 (d ∷ []) o2 a2 → Left o a s o2 a2 (hex (n - 1) x)
 unfolding hex
+digit-less {o = o} {s = s} {o1 = o1} {o2 = o2} {a = a} {d = d} {a1 = a1} {a2 = a2} zero x k h l e f w = elim h [ ]
 digit-less {d = d} (suc n) x k h l e f w =
     let p : suc n - 1 ≡ n = omega arith in
     let q : d ≡ hex_digit (x / 16 ^ n % 16) = rw sixteen (rw (f, p) at e) in
@@ -136,6 +137,7 @@ hex-room m n x h g l = omega (arith, hex-length n x, l.ends)
 pub digits-done : {o s o1 : List ℕ} {a a1 : ℕ} (n x : ℕ) → n ≤ 0 → Left o a s o1 a1 (hex n x) → Wrote o a s o1 a1
 unfolding hex
 digits-done zero x h l = none_left l
+digits-done {o = o} {s = s} {o1 = o1} {a = a} {a1 = a1} (suc _) x h l = elim h [ ]
 
 pub digits-end : (o : List ℕ) (a m x : ℕ) (o1 : List ℕ) (a1 n : ℕ) → n ≤ 0 → Left o a (hex m x) o1 a1 (hex n x) → a1 ≡ a + m
 digits-end o a m x o1 a1 n h l = omega (arith, hex-length m x, hex-length n x, l.ends)

@@ -36,11 +36,11 @@ module _ (active : ℕ → Bool) (rights : List ℕ) (memory : ℕ) (t : Transfe
 
 -- an element that is active or not, by its test where it is
 module _ (active : Bool) (x r : AccessTest) where
-  pub test-inactive : not active ≡ true → r ≡ Granted → r ≡ cond active x Granted
-  test-inactive h e = rw (not-true active h) e
+  pub test-inactive : active ≡ false → r ≡ Granted → r ≡ cond active x Granted
+  test-inactive h e = rw h e
 
-  pub test-active : not active ≡ false → r ≡ x → r ≡ cond active x Granted
-  test-active h e = rw (not-false active h) e
+  pub test-active : active ≡ true → r ≡ x → r ≡ cond active x Granted
+  test-active h e = rw h e
 
 -- an active element that is granted is inside memory
 module _ (active : ℕ → Bool) (rights : List ℕ) (memory : ℕ) (t : Transfer) where

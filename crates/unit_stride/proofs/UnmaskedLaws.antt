@@ -115,7 +115,7 @@ module _ (rights : List ℕ) (memory : ℕ) (t : Transfer) (v n : ℕ) (g : Pack
     first-address : element_address t (v + 0) 0 ≡ start
     first-address = ap (λ (i : ℕ). element_address t i 0) (add-zero v) ∙ sym q
 
-    pub at-misaligned : (x : Answer) (aligned : Bool) → (n ≡ 0 → ⊥) → aligned ≡ eqb (start % t.bytes) 0 → not aligned ≡ true
+    pub at-misaligned : (x : Answer) (aligned : Bool) → (n ≡ 0 → ⊥) → aligned ≡ eqb (start % t.bytes) 0 → aligned ≡ false
         → x ≡ misaligned t.store
         → Tested all rights memory t v n (record { answer = x; element = v; pages = 0; wanted = nothing_wanted })
     unfolding different_pages
@@ -125,9 +125,9 @@ module _ (rights : List ℕ) (memory : ℕ) (t : Transfer) (v n : ℕ) (g : Pack
         (rw first-address
         (sym (faults-misaligned rights memory t.store start t.bytes _ (misaligned t.store) aligned e f refl refl)))
         (sym p) refl (add-zero v)
-        (rw (first-address, sym e ∙ not-true aligned f))
+        (rw (first-address, sym e ∙ f))
 
-    pub begins : (aligned : Bool) → aligned ≡ eqb (start % t.bytes) 0 → not aligned ≡ false → Begins t v start
+    pub begins : (aligned : Bool) → aligned ≡ eqb (start % t.bytes) 0 → aligned ≡ true → Begins t v start
     begins aligned e f = record { begins = q; aligned = is-aligned start t.bytes aligned e f }
 
   -- so many lie inside memory

@@ -1,11 +1,6 @@
 use Prim.Native.Nat.{ℕ}
-use mathlib.Core.Path.{◌≡◌, sym, ap, subst, ◌∙◌}
-use mathlib.Core.List.{List, [], ◌∷◌}
-use types.Run.{OneOf, miss}
-use denote.Enum.Declared.{tag_of}
-use Rattle.answer.specs.declared.Answer.{Answer}
+use mathlib.Core.Path.{◌≡◌, sym, ap, ◌∙◌}
 use Rattle.answer.specs.declared.Answer.TheVariants.{Finished}
-use Rattle.answer.specs.contracts.Answer as N
 use Rattle.control.specs.declared.Board.{Board}
 use Rattle.control.specs.declared.Control.{Control}
 use Rattle.csr.specs.declared.CsrWrite.{CsrWrite}
@@ -15,10 +10,6 @@ use Rattle.csr_field.specs.Change.{after, change_of}
 use Rattle.csr_field.proofs.ChangeLaws.{finished, unfinished}
 use Rattle.csr_field.proofs.field_write_of.Goals as goal
 
--- the tags of the answers but `Finished`
-abbrev others : List ℕ
-others = 1 ∷ 2 ∷ 3 ∷ 4 ∷ 5 ∷ 6 ∷ 7 ∷ 8 ∷ 9 ∷ 10 ∷ 11 ∷ 12 ∷ []
-
 module _ (b : Board) (c : Control) (csr x : ℕ) (w : CsrWrite) (e : w ≡ written_of b c csr x) where
   answered : w.answer ≡ (written_of b c csr x).answer
   answered = ap (λ (u : CsrWrite). u.answer) e
@@ -27,11 +18,11 @@ module _ (b : Board) (c : Control) (csr x : ℕ) (w : CsrWrite) (e : w ≡ writt
   stored d h k = ap (λ (u : Change). after u c) (k ∙ ap (λ (u : CsrWrite). change_of csr u.control) e) ∙ finished b c csr x
       (sym answered ∙ h)
 
-  kept : OneOf others (tag_of N.the_type w.answer) → c ≡ (written_of b c csr x).control
-  kept tag = unfinished b c csr x (λ h. miss others 0 tt (subst (λ (a : Answer). OneOf others (tag_of N.the_type a)) (answered ∙ h) tag))
+  kept : (w.answer ≡ Finished → ⊥) → c ≡ (written_of b c csr x).control
+  kept n = unfinished b c csr x (λ h. n (answered ∙ h))
 
 pub returns-in-Finished : goal.returns-in-Finished
 returns-in-Finished c = (search answered, search stored)
 
 pub returns-in_default : goal.returns-in_default
-returns-in_default c = (search answered, kept _ _ _ _ _ c.write_on-written.ensures c.in_default.keys2)
+returns-in_default c = (search answered, kept _ _ _ _ _ c.write_on-written.ensures c.in_default.not-Finished)

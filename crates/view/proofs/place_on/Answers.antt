@@ -15,10 +15,10 @@ use Rattle.view.proofs.ViewLaws.{within}
 use Rattle.view.proofs.place_on.Goals as goal
 
 -- a group's numbers, in bytes
-first_fits : (v f n : ℕ) (r : Bool) → v ≤ 16 → r ≡ is_group_of f n → not r ≡ false → Fits w64 (v * f)
+first_fits : (v f n : ℕ) (r : Bool) → v ≤ 16 → r ≡ is_group_of f n → r ≡ true → Fits w64 (v * f)
 first_fits v f n r h e g = omega (arith, within f n (granted _ r e g), mul-le-mul_right f h)
 
-count_fits : (v f n : ℕ) (r : Bool) → v ≤ 16 → r ≡ is_group_of f n → not r ≡ false → Fits w64 (v * n)
+count_fits : (v f n : ℕ) (r : Bool) → v ≤ 16 → r ≡ is_group_of f n → r ≡ true → Fits w64 (v * n)
 count_fits v f n r h e g = omega (arith, within f n (granted _ r e g), mul-le-mul_right n h)
 
 ruleset fits = (first_fits, count_fits)
@@ -29,12 +29,12 @@ module _ (b : Board) (bytes f n : ℕ) where
   unfolding place_of
   wrong-file r h e = rw h e
 
-  no-group : (r : ViewPlace) (g : Bool) → not (eqb bytes (32 * b.vlenb)) ≡ false → g ≡ is_group_of f n → not g ≡ true → r ≡ no_part NoGroup
+  no-group : (r : ViewPlace) (g : Bool) → not (eqb bytes (32 * b.vlenb)) ≡ false → g ≡ is_group_of f n → g ≡ false → r ≡ no_part NoGroup
       → r ≡ place_of b bytes f n
   unfolding place_of
   no-group r g h k l e = rw (h, ← k, l) e
 
-  the-part : (r : ViewPlace) (g : Bool) → not (eqb bytes (32 * b.vlenb)) ≡ false → g ≡ is_group_of f n → not g ≡ false
+  the-part : (r : ViewPlace) (g : Bool) → not (eqb bytes (32 * b.vlenb)) ≡ false → g ≡ is_group_of f n → g ≡ true
       → r ≡ record { answer = Finished; start = b.vlenb * f; size = b.vlenb * n } → r ≡ place_of b bytes f n
   unfolding place_of
   the-part r g h k l e = rw (h, ← k, l) e
