@@ -5,9 +5,6 @@ use Rattle.sheet_read.proofs.LineLaws.{decimal-from, no_zero}
 use borrow.Author.Rules.{rules}
 use Rattle.sheet_read.proofs.up_to_128.Goals as goal
 
-second : (c : tie.Else4) → 48 ≤ c.before.before.before.before.before.before.args.e
-second c = decimal-from _ _ c.before.is-decimal2.ensures c.if4.false
-
 pub is_decimal-requires : goal.is_decimal-requires
 unfolding up_to_128
 is_decimal-requires c = search rules
@@ -42,7 +39,7 @@ overflow_sub-result-then-f-eq10 c = search decimal-from
 
 pub overflow_sub-result-then-f-eq10-2 : goal.overflow_sub-result-then-f-eq10-2
 unfolding up_to_128
-overflow_sub-result-then-f-eq10-2 c = second c
+overflow_sub-result-then-f-eq10-2 c = search decimal-from
 
 pub returns-then-f-eq10 : goal.returns-then-f-eq10
 unfolding up_to_128
@@ -50,7 +47,7 @@ returns-then-f-eq10 c = search chain
 
 pub three_digits-requires : goal.three_digits-requires
 unfolding up_to_128
-three_digits-requires c = (search decimal-from, second c)
+three_digits-requires c = (search decimal-from, search decimal-from)
 
 pub returns : goal.returns
 unfolding up_to_128
