@@ -18,7 +18,6 @@ use Rattle.decode.proofs.Fields.{fits}
 use Rattle.access.specs.declared.FaultPlace.{FaultPlace}
 use Rattle.access.specs.Access.{nothing_wanted}
 use Rattle.plan.specs.declared.Transfer.{Transfer}
-use Rattle.plan.specs.declared.OneTurn.{OneTurn}
 use Rattle.plan.specs.declared.Plan.{Plan}
 use Rattle.plan.specs.declared.Plan.TheVariants as P
 use Rattle.turn_theory.specs.Turn.{Semantics, paused, Point, Turn, remaining, answered, legal, turn}

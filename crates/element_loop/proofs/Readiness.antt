@@ -37,7 +37,6 @@ use Rattle.group.specs.Group.{registers_of, field_group, span_of, placed_of}
 use Rattle.group.proofs.GroupLaws.{placed-facts, fields-before}
 use Rattle.plan.specs.declared.Read.{Read}
 use Rattle.plan.specs.declared.Read.TheVariants as R
-use Rattle.plan.specs.declared.Action.TheVariants as A
 use Rattle.plan.specs.declared.Transfer.{Transfer}
 use Rattle.plan.specs.declared.Elementwise.{Elementwise}
 use Rattle.plan.specs.declared.Plan.{Plan}

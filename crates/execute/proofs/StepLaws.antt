@@ -1,6 +1,5 @@
 -- Operands by where they come from, and an element by what it comes to: masked off, faulted, moved field by field, or computed.
-use Rattle.std.proofs.Common.{◌≡◌, ℕ, suc, ◌+◌, ◌-◌, ◌*◌, ◌^◌, ◌<◌, ◌≤◌, Bool, true, false, cond, not, ◌&&◌, eqb, List, [], ◌∷◌, length, sym, refl, ap, ◌∙◌, subst, mul-le-mul_right, mod-eq_of_lt, add-one, arith, w64, Fits}
-use borrow.Author.Tests.{not-true, not-false}
+use Rattle.std.proofs.Common.{◌≡◌, ℕ, suc, ◌+◌, ◌-◌, ◌*◌, ◌^◌, ◌<◌, ◌≤◌, Bool, true, false, cond, ◌&&◌, eqb, List, [], ◌∷◌, length, sym, refl, ap, ◌∙◌, subst, mul-le-mul_right, mod-eq_of_lt, add-one, arith, w64, Fits}
 use Rattle.fixed.specs.declared.Element.{Element}
 use Rattle.alu.specs.Element.{element_of}
 use Rattle.control.specs.declared.Board.{Board}

@@ -2,4 +2,3 @@
 // code. The calls that take turns are in the crate turn.
 
 #![tactic(auto)]
-

@@ -1,14 +1,11 @@
 -- The operations that have a kernel; one element by numbers, and by the plan that they say; a stretch of elements.
-use Prim.Native.Nat.{ℕ, suc, ◌+◌, ◌-◌, ◌*◌, ◌/◌, ◌≤◌, ◌<◌}
+use Prim.Native.Nat.{ℕ, suc, ◌+◌, ◌-◌, ◌*◌, ◌≤◌, ◌<◌}
 use mathlib.Core.Path.{◌≡◌, refl, sym, ap, subst, ◌∙◌}
-use mathlib.Core.Bool.{Bool, true, false, not, ◌||◌, cond}
+use mathlib.Core.Bool.{Bool, true, false}
 use mathlib.Core.List.{List}
 use native.Mathlib.Omega.{arith}
-use native.Mathlib.Nat.{mul-le-mul_right}
 use lib.ListN.{length}
 use lib.Dec.{T, eqb, lit≤}
-use mir.Syntax.{w64}
-use mir.Val.{Fits}
 use borrow.Author.Tests.{ne_eqb}
 use Rattle.laws.proofs.Chain.{either}
 use Rattle.width.specs.Width.{Width}
@@ -24,16 +21,14 @@ use Rattle.operation.specs.Shape.{shape_of, maskable_of}
 use Rattle.alu.specs.Element.{element_of}
 use Rattle.control.specs.declared.Board.{Board}
 use Rattle.control.specs.declared.Control.{Control}
-use Rattle.layout.specs.Layout.{bytes_at, with_bytes, with_element, byte_size, Inside}
+use Rattle.layout.specs.Layout.{bytes_at, with_bytes, byte_size}
 use Rattle.layout.proofs.WidthLaws.{size-elim}
 use Rattle.layout.proofs.BytesLaws.{length-with_bytes}
-use Rattle.layout.proofs.ElementLaws.{at-several, with-several}
+use Rattle.layout.proofs.ElementLaws.{with-several}
 use Rattle.access.specs.declared.AccessTest.TheVariants.{Granted}
-use Rattle.plan.specs.declared.Action.TheVariants as A
-use Rattle.plan.specs.declared.Compute.{Compute}
 use Rattle.plan.specs.declared.Elementwise.{Elementwise}
 use Rattle.machine.specs.Effect.{put_of, put_all, acting_of, effect_of}
-use Rattle.execute.specs.Step.{core_at, Did, Ran, none, more}
+use Rattle.execute.specs.Step.{core_at, Did, none, more}
 use Rattle.execute.proofs.StepLaws.{acted}
 use Rattle.kernel.specs.declared.Stretch.{Stretch}
 use Rattle.kernel.specs.Kernel.{operation_at, second_at, result_at, lane_of, Numbered, Swept, Placed}

@@ -1,25 +1,21 @@
 -- From a plan to the numbers by which a kernel runs it.
 use Prim.Native.Nat.{ℕ, ◌+◌, ◌-◌, ◌*◌, ◌/◌, ◌≤◌, ◌<◌}
 use mathlib.Core.Path.{◌≡◌, refl, sym, ap, subst, ◌∙◌}
-use mathlib.Core.Bool.{Bool, true, false, not, ◌&&◌, cond}
+use mathlib.Core.Bool.{true, false, not, ◌&&◌, cond}
 use mathlib.Core.List.{List}
 use native.Mathlib.Omega.{arith}
 use lib.Dec.{T, ltb}
-use mir.Syntax.{w64}
-use mir.Val.{Fits}
-use borrow.Author.Tests.{ltb-true, not-true, not-false}
+use borrow.Author.Tests.{ltb-true, not-true}
 use Rattle.laws.proofs.Apart.{both_left, both_right}
 use Rattle.fixed.specs.declared.Vxrm.TheVariants.{Rnu}
 use Rattle.operation.specs.declared.Op.{Op}
-use Rattle.operation.specs.Shape.{shape_of}
 use Rattle.alu.specs.Element.{element_of}
 use Rattle.control.specs.declared.Board.{Board}
 use Rattle.control.specs.declared.Control.{Control}
-use Rattle.layout.specs.Layout.{bytes_at, element_at, element_width, byte_size, Inside}
+use Rattle.layout.specs.Layout.{bytes_at, element_at, element_width, Inside}
 use Rattle.layout.proofs.WidthLaws.{whole-bytes, bytes-size}
 use Rattle.layout.proofs.ElementLaws.{bytes-room, at-several}
 use Rattle.plan.specs.declared.Read.{Read}
-use Rattle.plan.specs.declared.Read.TheVariants as R
 use Rattle.plan.specs.declared.Compute.{Compute}
 use Rattle.plan.specs.declared.Elementwise.{Elementwise}
 use Rattle.machine.specs.Effect.{value_of}
@@ -27,7 +23,7 @@ use Rattle.execute.specs.Step.{ReadInside, Ready, core_at, Attempted, done}
 use Rattle.execute.proofs.StepLaws.{first-inside}
 use Rattle.kernel.specs.declared.Stretch.{Stretch}
 use Rattle.kernel.specs.declared.Operand.{Operand}
-use Rattle.kernel.specs.Kernel.{operation_at, operand_of, second_at, lane_of, Numbered, Swept, Placed, Elements, elements}
+use Rattle.kernel.specs.Kernel.{operation_at, operand_of, lane_of, Swept, Placed, Elements, elements}
 use Rattle.kernel.specs.Kernel.{ElementsOrScalar, vector, scalar, SingleWidth, Computable}
 use Rattle.kernel.proofs.KernelLaws.{Plain, plain}
 

@@ -1,5 +1,5 @@
 -- For contracts of inner functions, not to be believed: an operation and its operands by numbers, and what a kernel relies on and leaves.
-use Rattle.std.specs.Prelude.{ℕ, ◌+◌, ◌-◌, ◌*◌, ◌/◌, ◌≤◌, ◌<◌, ◌≡◌, Bool, true, false, cond, List, T, eqb}
+use Rattle.std.specs.Prelude.{ℕ, ◌+◌, ◌*◌, ◌≤◌, ◌<◌, ◌≡◌, Bool, true, false, cond, List, T, eqb}
 use Rattle.fixed.specs.declared.Element.{Element}
 use Rattle.fixed.specs.declared.Vxrm.TheVariants.{Rnu}
 use Rattle.operation.specs.declared.Op.{Op}

@@ -3,7 +3,6 @@ use Prim.Native.Nat.{ℕ, ◌<◌}
 use mathlib.Core.Path.{◌≡◌, ◌∙◌, subst}
 use mathlib.Core.Bool.{Bool, true, false, not, ◌&&◌, ◌||◌}
 use lib.Dec.{leb, eqb}
-use borrow.Author.Tests.{not-true, not-false}
 use Rattle.laws.proofs.Apart.{both_left, both_right}
 use Rattle.laws.proofs.Chain.{case}
 use Rattle.operation.specs.Shape.{largest_sew}

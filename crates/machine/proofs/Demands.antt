@@ -37,9 +37,7 @@ use Rattle.access.specs.declared.Fault.{Fault}
 use Rattle.access.specs.Access.{nowhere}
 use Rattle.refusal.specs.Refusal.{refusal_of}
 use Rattle.refusal.proofs.RefusalLaws.{accepted-facts}
-use Rattle.plan.specs.declared.Action.TheVariants as A
 use Rattle.plan.specs.declared.ScalarMove.{ScalarMove}
-use Rattle.plan.specs.declared.OneTurn.{OneTurn}
 use Rattle.plan.specs.declared.OneTurn.TheVariants as O
 use Rattle.plan.specs.declared.Plan.{Plan}
 use Rattle.plan.specs.declared.Plan.TheVariants as P

@@ -11,9 +11,7 @@ use Rattle.answer.specs.declared.Answer.TheVariants.{LoadMisaligned, LoadAccess,
 use Rattle.answer.specs.declared.Answer.TheVariants.{BadRegisters, BadScalars, BadMemory, BadRights, BadControl, NoGroup}
 use Rattle.control.specs.declared.Board.{Board}
 use Rattle.access.specs.Access.{nowhere}
-use Rattle.plan.specs.declared.Action.TheVariants as A
 use Rattle.plan.specs.declared.Plan.{Plan}
-use Rattle.plan.specs.declared.Plan.TheVariants as P
 use Rattle.turn_theory.specs.Turn.{Turn, Point}
 use Rattle.turn_theory.proofs.Laws.{turn-cases}
 use Rattle.machine.specs.State.{State, core_of}

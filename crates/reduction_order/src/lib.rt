@@ -2,4 +2,3 @@
 // crate reduction.
 
 #![tactic(auto)]
-

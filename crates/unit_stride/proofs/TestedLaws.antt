@@ -1,9 +1,8 @@
 -- What comes of testing the elements, from what the code has: an answer, an element, a number of pages, and what was wanted of a page.
 use Prim.Native.Nat.{ℕ, ◌+◌, ◌<◌}
 use mathlib.Core.Path.{◌≡◌}
-use mathlib.Core.Bool.{Bool, true, false, not, cond}
+use mathlib.Core.Bool.{Bool, true, false, cond}
 use mathlib.Core.List.{List}
-use borrow.Author.Tests.{not-true, not-false}
 use Rattle.width.specs.Width.{flag}
 use Rattle.answer.specs.declared.Answer.{Answer}
 use Rattle.answer.specs.declared.Answer.TheVariants.{Finished}
@@ -12,7 +11,6 @@ use Rattle.access.specs.declared.Fault.{Fault}
 use Rattle.access.specs.declared.AccessTest.{AccessTest}
 use Rattle.access.specs.declared.AccessTest.TheVariants.{Granted, Faulted}
 use Rattle.access.specs.Access.{nothing_wanted}
-use Rattle.plan.specs.declared.Action.TheVariants as A
 use Rattle.access.proofs.AccessLaws.{granted-facts}
 use Rattle.plan.specs.declared.Transfer.{Transfer}
 use Rattle.machine.specs.Effect.{active_of, element_address}

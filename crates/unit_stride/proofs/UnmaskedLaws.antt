@@ -1,7 +1,7 @@
 -- A unit-stride access without a mask, by its pages: the start's alignment, how many elements lie inside memory, and the first closed page.
 use Prim.Native.Nat.{ℕ, zero, suc, ◌+◌, ◌-◌, ◌*◌, ◌/◌, ◌%◌, ◌≤◌, ◌<◌, min}
 use mathlib.Core.Path.{◌≡◌, refl, sym, ap, subst, ◌∙◌}
-use mathlib.Core.Bool.{Bool, true, false, not}
+use mathlib.Core.Bool.{Bool, true, false}
 use mathlib.Core.List.{List}
 use native.Mathlib.Omega.{arith}
 use native.Mathlib.Nat.{add-zero, mul-le-mul_right, div-le_self}
@@ -11,7 +11,6 @@ use mir.Syntax.{w64}
 use mir.Val.{Fits}
 use lib.ListN.{get_or}
 use lib.Dec.{T, eqb}
-use borrow.Author.Tests.{not-true}
 use Rattle.layout.specs.Layout.{byte_size}
 use Rattle.layout.proofs.WidthLaws.{size-elim, size-pos}
 use Rattle.answer.specs.declared.Answer.{Answer}

@@ -1,5 +1,5 @@
-use Rattle.std.proofs.Common.{suc, ◌-◌, arith, rules}
-use Rattle.access.proofs.AccessLaws.{Testing, testing-none, testing-faulted, testing-more, testing-done}
+use Rattle.std.proofs.Common.{arith}
+use Rattle.access.proofs.AccessLaws.{testing-none, testing-faulted, testing-more, testing-done}
 use Rattle.access.proofs.segment.Goals as goal
 
 pub loop-k-init : goal.loop-k-init

@@ -1,5 +1,5 @@
-use Rattle.std.proofs.Common.{suc, ◌-◌, arith, rules}
-use Rattle.access.proofs.AccessLaws.{Testing, testing-none, testing-faulted, testing-more, testing-done}
+use Rattle.std.proofs.Common.{suc, ◌-◌}
+use Rattle.access.proofs.AccessLaws.{Testing}
 use Rattle.access.proofs.segment.Given as goal
 
 abbrev pub invariant-loop-k : goal.invariant-loop-k

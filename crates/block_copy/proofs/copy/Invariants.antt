@@ -1,6 +1,5 @@
 use Prim.Native.Nat.{◌-◌}
-use native.Mathlib.Omega.{arith}
-use Rattle.block_copy.proofs.CopyLaws.{Copying, copying-none, copying-more, copying-done}
+use Rattle.block_copy.proofs.CopyLaws.{Copying}
 use Rattle.block_copy.proofs.copy.Given as goal
 
 abbrev pub invariant-loop-k : goal.invariant-loop-k

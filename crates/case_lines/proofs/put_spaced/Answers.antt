@@ -1,8 +1,5 @@
-use Prim.Native.Nat.{◌-◌}
 use native.Mathlib.Omega.{arith}
-use lib.ListN.{length, drop}
-use Rattle.text.proofs.TextLaws.{Left, whole, left-kept}
-use Rattle.case_lines.specs.Lines.{spaced}
+use Rattle.text.proofs.TextLaws.{whole, left-kept}
 use Rattle.case_lines.proofs.LineLaws.{number-less, numbers-done, space-room, number-room}
 use Rattle.case_lines.proofs.put_spaced.Goals as goal
 

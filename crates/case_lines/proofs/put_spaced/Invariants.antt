@@ -1,9 +1,7 @@
 use Prim.Native.Nat.{◌-◌}
-use native.Mathlib.Omega.{arith}
 use lib.ListN.{length, drop}
-use Rattle.text.proofs.TextLaws.{Left, whole, left-kept}
+use Rattle.text.proofs.TextLaws.{Left}
 use Rattle.case_lines.specs.Lines.{spaced}
-use Rattle.case_lines.proofs.LineLaws.{number-less, numbers-done, space-room, number-room}
 use Rattle.case_lines.proofs.put_spaced.Given as goal
 
 abbrev pub invariant-loop-i : goal.invariant-loop-i

@@ -1,4 +1,4 @@
-use Rattle.std.proofs.Common.{◌≡◌, ℕ, ◌/◌, List, length, take, sym, arith, length-take-le, rules}
+use Rattle.std.proofs.Common.{◌≡◌, ℕ, ◌/◌, List, length, take, sym, arith, length-take-le}
 use Rattle.changes_main.proofs.take.Goals as goal
 
 -- the length of the first half

@@ -1,8 +1,6 @@
-use mathlib.Core.Path.{◌≡◌, sym, ◌∙◌}
-use mathlib.Core.Bool.{true, false}
+use mathlib.Core.Path.{sym, ◌∙◌}
 use native.Mathlib.Omega.{arith}
 use borrow.Author.Tests.{ne_eqb}
-use Rattle.control.specs.Control.{is_off, possible_of}
 use Rattle.control.proofs.Laws.{possible-apart}
 use Rattle.csr.specs.Csr.{read_of}
 use Rattle.csr.proofs.read_on.Goals as goal

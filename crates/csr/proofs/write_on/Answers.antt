@@ -1,7 +1,5 @@
-use mathlib.Core.Path.{◌≡◌, sym, ◌∙◌}
-use mathlib.Core.Bool.{true, false}
+use mathlib.Core.Path.{sym, ◌∙◌}
 use borrow.Author.Tests.{ne_eqb}
-use Rattle.control.specs.Control.{is_off, possible_of}
 use Rattle.csr.specs.Csr.{written_of}
 use Rattle.csr.proofs.write_on.Goals as goal
 

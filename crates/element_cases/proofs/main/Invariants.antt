@@ -1,5 +1,4 @@
 use Prim.Native.Nat.{◌-◌, ◌≤◌}
-use native.Mathlib.Omega.{arith}
 use Rattle.element_cases.proofs.main.Given as goal
 
 abbrev pub invariant-loop : goal.invariant-loop

@@ -1,7 +1,5 @@
 use Prim.Native.Nat.{◌-◌}
-use Rattle.layout.proofs.BytesLaws.{slice-bytes}
-use Rattle.element_loop.proofs.LoopLaws.{Going, going-none, permuted-more, next-index, end_fits, next-ready, next-permutable}
-use Rattle.element_loop.proofs.LoopLaws.{stop-fits, stop-left}
+use Rattle.element_loop.proofs.LoopLaws.{Going}
 use Rattle.element_loop.proofs.permuted.Given as goal
 
 abbrev pub invariant-loop-k : goal.invariant-loop-k

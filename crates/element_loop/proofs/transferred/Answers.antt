@@ -1,6 +1,5 @@
-use Prim.Native.Nat.{◌-◌}
 use Rattle.layout.proofs.BytesLaws.{slice-bytes}
-use Rattle.element_loop.proofs.LoopLaws.{Going, going-none, transferred-more, next-index, end_fits, rights-length, memory-bound}
+use Rattle.element_loop.proofs.LoopLaws.{going-none, transferred-more, next-index, end_fits, rights-length, memory-bound}
 use Rattle.element_loop.proofs.LoopLaws.{next-ready, next-bytes, trap-left, stop-fits, stop-left}
 use borrow.Author.Rules.{rules}
 use Rattle.element_loop.proofs.transferred.Goals as goal
@@ -13,20 +12,20 @@ overflow_add-i c = search (next-index, end_fits)
 
 pub transfer_element-requires : goal.transfer_element-requires
 transfer_element-requires c = (
-      next-ready _ _ _ _ _ _ _ _ c.requires.0 _ _ _ _ c.loop-k.invariant _ _ _
-          c.less-remaining.ensures c.smaller-most.ensures c.loop-k-test.true,
+  next-ready _ _ _ _ _ _ _ _ c.requires.0 _ _ _ _ c.loop-k.invariant _ _ _
+      c.less-remaining.ensures c.smaller-most.ensures c.loop-k-test.true,
+  (
+    search rights-length,
+    (
+      search memory-bound,
       (
-        search rights-length,
-        (
-          search memory-bound,
-          (
-            next-bytes _ _ _ _ _ _ _ _ c.requires.0 _ _ _ _ c.loop-k.invariant _ _ _ _
-                c.less-remaining.ensures c.smaller-most.ensures c.loop-k-test.true c.requires.1,
-            c.requires.1,
-          ),
-        ),
+        next-bytes _ _ _ _ _ _ _ _ c.requires.0 _ _ _ _ c.loop-k.invariant _ _ _ _
+            c.less-remaining.ensures c.smaller-most.ensures c.loop-k-test.true c.requires.1,
+        c.requires.1,
       ),
-    )
+    ),
+  ),
+)
 
 pub overflow_add-vstart : goal.overflow_add-vstart
 overflow_add-vstart c = search (next-index, end_fits)

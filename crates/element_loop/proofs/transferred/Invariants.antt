@@ -1,7 +1,5 @@
 use Prim.Native.Nat.{◌-◌}
-use Rattle.layout.proofs.BytesLaws.{slice-bytes}
-use Rattle.element_loop.proofs.LoopLaws.{Going, going-none, transferred-more, next-index, end_fits, rights-length, memory-bound}
-use Rattle.element_loop.proofs.LoopLaws.{next-ready, next-bytes, trap-left, stop-fits, stop-left}
+use Rattle.element_loop.proofs.LoopLaws.{Going}
 use Rattle.element_loop.proofs.transferred.Given as goal
 
 abbrev pub invariant-loop-k : goal.invariant-loop-k

@@ -1,4 +1,3 @@
-use Rattle.std.proofs.Common.{rules}
 use Rattle.execute.proofs.active.Goals as goal
 
 pub returns : goal.returns

@@ -1,4 +1,3 @@
-use Rattle.std.proofs.Common.{rules}
 use Rattle.execute.proofs.StepLaws.{first-inside, computed}
 use Rattle.execute.proofs.compute.Goals as goal
 

@@ -1,4 +1,3 @@
-use Rattle.std.proofs.Common.{rules}
 use Rattle.execute.proofs.StepLaws.{kept-on-store, kept-on-load, field_stored, field-loaded}
 use Rattle.execute.proofs.move_field.Goals as goal
 

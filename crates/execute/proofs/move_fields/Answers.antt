@@ -1,5 +1,5 @@
-use Rattle.std.proofs.Common.{suc, ◌-◌, arith, rules}
-use Rattle.execute.proofs.StepLaws.{Moving, moving-none, moving-more, moving-done}
+use Rattle.std.proofs.Common.{arith, rules}
+use Rattle.execute.proofs.StepLaws.{moving-none, moving-more, moving-done}
 use Rattle.execute.proofs.StepLaws.{moving-inside, moving-room, register-fits, field_fits}
 use Rattle.execute.proofs.move_fields.Goals as goal
 

@@ -1,6 +1,5 @@
-use Rattle.std.proofs.Common.{suc, ◌-◌, arith, rules}
-use Rattle.execute.proofs.StepLaws.{Moving, moving-none, moving-more, moving-done}
-use Rattle.execute.proofs.StepLaws.{moving-inside, moving-room, register-fits, field_fits}
+use Rattle.std.proofs.Common.{suc, ◌-◌}
+use Rattle.execute.proofs.StepLaws.{Moving}
 use Rattle.execute.proofs.move_fields.Given as goal
 
 abbrev pub invariant-loop-k : goal.invariant-loop-k

@@ -1,4 +1,3 @@
-use Rattle.std.proofs.Common.{rules}
 use Rattle.execute.proofs.StepLaws.{set_is}
 use Rattle.execute.proofs.set_at.Goals as goal
 

@@ -1,4 +1,3 @@
-use Rattle.std.proofs.Common.{rules}
 use Rattle.access.proofs.AccessLaws.{segment-inside}
 use Rattle.execute.proofs.StepLaws.{faulted, moved}
 use Rattle.execute.proofs.transfer.Goals as goal

@@ -1,4 +1,4 @@
-use Rattle.std.proofs.Common.{refl, rules}
+use Rattle.std.proofs.Common.{refl}
 use Rattle.machine.specs.Effect.{value_of}
 use Rattle.execute.specs.Step.{ReadInside}
 use Rattle.execute.proofs.StepLaws.{read-inside, value-of}

@@ -1,6 +1,4 @@
-use mathlib.Core.Path.{◌≡◌}
-use Prim.Native.Nat.{◌-◌, ◌≤◌}
-use Rattle.hexadecimal.specs.Hexadecimal.{is_digit, all_at, digits_at}
+use Rattle.hexadecimal.specs.Hexadecimal.{is_digit, all_at}
 use Rattle.hexadecimal.proofs.Laws.{all_none, all_more, reached}
 use borrow.Author.Rules.{rules}
 use Rattle.hexadecimal.proofs.digits.Goals as goal

@@ -1,7 +1,6 @@
 use mathlib.Core.Path.{◌≡◌}
 use Prim.Native.Nat.{◌-◌, ◌≤◌}
-use Rattle.hexadecimal.specs.Hexadecimal.{is_digit, all_at, digits_at}
-use Rattle.hexadecimal.proofs.Laws.{all_none, all_more, reached}
+use Rattle.hexadecimal.specs.Hexadecimal.{digits_at}
 use Rattle.hexadecimal.proofs.digits.Given as goal
 
 abbrev pub invariant-loop-i : goal.invariant-loop-i

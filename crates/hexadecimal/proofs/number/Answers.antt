@@ -1,5 +1,3 @@
-use mathlib.Core.Path.{◌≡◌}
-use Prim.Native.Nat.{◌-◌, ◌≤◌, ◌<◌, ◌^◌}
 use Rattle.hexadecimal.specs.Hexadecimal.{number_at}
 use Rattle.hexadecimal.proofs.Laws.{no_number, number_more, reached, more_lt, all-lt, more-fits, times-fits}
 use borrow.Author.Rules.{rules}

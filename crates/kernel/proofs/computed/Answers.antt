@@ -12,17 +12,17 @@ overflow_mul-s c = omega (arith, vd-start _ _ _ _ _ _ _ c.requires c.number_of-n
 
 pub overflow_mul-s-2 : goal.overflow_mul-s-2
 overflow_mul-s-2 c = omega (
-      arith,
-      vs2-start _ _ _ _ _ _ _ c.requires c.number_of-number.ensures c.if-not-e-number.false _
-          c.operand_of-first.ensures,
-    )
+  arith,
+  vs2-start _ _ _ _ _ _ _ c.requires c.number_of-number.ensures c.if-not-e-number.false _
+      c.operand_of-first.ensures,
+)
 
 pub overflow_mul-s-3 : goal.overflow_mul-s-3
 overflow_mul-s-3 c = omega (
-      arith,
-      vs1-start _ _ _ _ _ _ _ c.requires c.number_of-number.ensures c.if-not-e-number.false _
-          c.operand_of-second.ensures,
-    )
+  arith,
+  vs1-start _ _ _ _ _ _ _ c.requires c.number_of-number.ensures c.if-not-e-number.false _
+      c.operand_of-second.ensures,
+)
 
 pub by_operation-requires : goal.by_operation-requires
 by_operation-requires c = placed _ _ _ _ _ _ _ c.requires c.number_of-number.ensures c.if-not-e-number.false _ _

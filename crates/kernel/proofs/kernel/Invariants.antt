@@ -1,6 +1,5 @@
 use Prim.Native.Nat.{◌-◌}
-use native.Mathlib.Omega.{arith}
-use Rattle.kernel.proofs.KernelLaws.{Sweeping, sweeping-none, sweeping-more, sweeping-done, vs2-inside, vd-inside, vs1-inside}
+use Rattle.kernel.proofs.KernelLaws.{Sweeping}
 use Rattle.kernel.proofs.kernel.Given as goal
 
 abbrev pub invariant-loop-i : goal.invariant-loop-i

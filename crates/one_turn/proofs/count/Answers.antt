@@ -1,7 +1,4 @@
-use Prim.Native.Nat.{◌-◌, ◌≤◌}
-use mathlib.Core.Path.{◌≡◌}
 use native.Mathlib.Omega.{arith}
-use Rattle.machine.specs.OneTurn.{population_of}
 use Rattle.one_turn.proofs.MaskLaws.{v0-inside, vs2-inside, flag-le, population-none, population-more, population-all}
 use Rattle.one_turn.proofs.count.Goals as goal
 

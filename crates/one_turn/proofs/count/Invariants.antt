@@ -1,9 +1,7 @@
 -- n is the population of the first i elements, and so at most i.
 use Prim.Native.Nat.{◌-◌, ◌≤◌}
 use mathlib.Core.Path.{◌≡◌}
-use native.Mathlib.Omega.{arith}
 use Rattle.machine.specs.OneTurn.{population_of}
-use Rattle.one_turn.proofs.MaskLaws.{v0-inside, vs2-inside, flag-le, population-none, population-more, population-all}
 use Rattle.one_turn.proofs.count.Given as goal
 
 abbrev pub invariant-loop-i : goal.invariant-loop-i

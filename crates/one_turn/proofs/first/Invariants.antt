@@ -1,10 +1,7 @@
 -- The first from i up is the first of all.
 use Prim.Native.Nat.{◌-◌, ◌≤◌}
 use mathlib.Core.Path.{◌≡◌}
-use native.Mathlib.Nat.{sub-zero}
-use native.Mathlib.Omega.{arith}
 use Rattle.machine.specs.OneTurn.{first_of}
-use Rattle.one_turn.proofs.MaskLaws.{v0-inside, vs2-inside, first-here, first_more, first-none}
 use Rattle.one_turn.proofs.first.Given as goal
 
 abbrev pub invariant-loop-i : goal.invariant-loop-i

@@ -1,6 +1,5 @@
-use Prim.Native.Nat.{◌-◌}
 use native.Mathlib.Omega.{arith}
-use Rattle.one_turn.proofs.MaskLaws.{Going, going-none, going_more, going-all}
+use Rattle.one_turn.proofs.MaskLaws.{going-none, going_more, going-all}
 use Rattle.one_turn.proofs.set_first.Goals as goal
 
 pub loop-i-init : goal.loop-i-init

@@ -1,7 +1,6 @@
 -- What is still to be set, set now, gives the whole; the elements are active as they were before.
 use Prim.Native.Nat.{◌-◌}
-use native.Mathlib.Omega.{arith}
-use Rattle.one_turn.proofs.MaskLaws.{Going, going-none, going_more, going-all}
+use Rattle.one_turn.proofs.MaskLaws.{Going}
 use Rattle.one_turn.proofs.set_first.Given as goal
 
 abbrev pub invariant-loop-i : goal.invariant-loop-i

@@ -1,6 +1,5 @@
-use Prim.Native.Nat.{◌-◌}
 use native.Mathlib.Omega.{arith}
-use Rattle.packing.proofs.PackLaws.{Walked, walked_none, walked_more, walked_all, reachable-here}
+use Rattle.packing.proofs.PackLaws.{walked_none, walked_more, walked_all, reachable-here}
 use Rattle.packing.proofs.pack.Goals as goal
 
 pub loop-i-init : goal.loop-i-init

@@ -1,7 +1,6 @@
 -- What is still to be written, written now, gives the whole; the sources are read as they were before.
 use Prim.Native.Nat.{◌-◌}
-use native.Mathlib.Omega.{arith}
-use Rattle.packing.proofs.PackLaws.{Walked, walked_none, walked_more, walked_all, reachable-here}
+use Rattle.packing.proofs.PackLaws.{Walked}
 use Rattle.packing.proofs.pack.Given as goal
 
 abbrev pub invariant-loop-i : goal.invariant-loop-i

@@ -1,6 +1,5 @@
-use Prim.Native.Nat.{◌-◌}
 use native.Mathlib.Omega.{arith}
-use Rattle.reduction.proofs.FoldLaws.{Folding, folding-none, folding-more, folding-reachable, folding-all}
+use Rattle.reduction.proofs.FoldLaws.{folding-none, folding-more, folding-reachable, folding-all}
 use borrow.Author.Rules.{rules}
 use Rattle.reduction.proofs.fold.Goals as goal
 

@@ -1,6 +1,5 @@
 use Prim.Native.Nat.{◌-◌}
-use native.Mathlib.Omega.{arith}
-use Rattle.reduction.proofs.FoldLaws.{Folding, folding-none, folding-more, folding-reachable, folding-all}
+use Rattle.reduction.proofs.FoldLaws.{Folding}
 use Rattle.reduction.proofs.fold.Given as goal
 
 abbrev pub invariant-loop-i : goal.invariant-loop-i

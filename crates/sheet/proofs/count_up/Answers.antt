@@ -1,7 +1,4 @@
-use mathlib.Core.Path.{◌≡◌}
-use Prim.Native.Nat.{◌-◌, ◌≤◌}
-use lib.ListN.{length}
-use Rattle.sheet.proofs.Printing.{Filled, filled_none, filled-length, filled_more, filled-all}
+use Rattle.sheet.proofs.Printing.{filled_none, filled-length, filled_more, filled-all}
 use borrow.Author.Rules.{rules}
 use Rattle.sheet.proofs.count_up.Goals as goal
 

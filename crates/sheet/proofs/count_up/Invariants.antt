@@ -1,7 +1,7 @@
 use mathlib.Core.Path.{◌≡◌}
 use Prim.Native.Nat.{◌-◌, ◌≤◌}
 use lib.ListN.{length}
-use Rattle.sheet.proofs.Printing.{Filled, filled_none, filled-length, filled_more, filled-all}
+use Rattle.sheet.proofs.Printing.{Filled}
 use Rattle.sheet.proofs.count_up.Given as goal
 
 abbrev pub invariant-loop-a : goal.invariant-loop-a

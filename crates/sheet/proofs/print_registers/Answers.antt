@@ -1,5 +1,4 @@
-use Prim.Native.Nat.{◌-◌, ◌≤◌}
-use Rattle.sheet.proofs.Printing.{Printed, printed-none, printed-more, printed-kept, printed-all}
+use Rattle.sheet.proofs.Printing.{printed-none, printed-more, printed-kept, printed-all}
 use borrow.Author.Rules.{rules}
 use Rattle.sheet.proofs.print_registers.Goals as goal
 

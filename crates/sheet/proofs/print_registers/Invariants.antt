@@ -1,5 +1,5 @@
 use Prim.Native.Nat.{◌-◌, ◌≤◌}
-use Rattle.sheet.proofs.Printing.{Printed, printed-none, printed-more, printed-kept, printed-all}
+use Rattle.sheet.proofs.Printing.{Printed}
 use Rattle.sheet.proofs.print_registers.Given as goal
 
 abbrev pub invariant-loop-n : goal.invariant-loop-n

@@ -1,5 +1,5 @@
 use Rattle.machine.specs.Call.{given}
-use Rattle.sheet.proofs.RunLaws.{AsLong, Turning, turning-none, turning-more, turning-done, turning-last}
+use Rattle.sheet.proofs.RunLaws.{AsLong, Turning}
 use Rattle.sheet.proofs.run_word.Given as goal
 
 abbrev pub invariant-loop-left : goal.invariant-loop-left

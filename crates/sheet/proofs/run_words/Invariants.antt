@@ -1,7 +1,7 @@
 use Prim.Native.Nat.{◌-◌, ◌≤◌}
 use Rattle.control.specs.Control.{reset}
 use Rattle.machine.specs.Call.{given}
-use Rattle.sheet.proofs.RunLaws.{AsLong, Running, running_none, running_more, running-stops, running-last}
+use Rattle.sheet.proofs.RunLaws.{AsLong, Running}
 use Rattle.sheet.proofs.run_words.Given as goal
 
 abbrev pub invariant-loop-k : goal.invariant-loop-k

@@ -1,7 +1,3 @@
-use mathlib.Core.Path.{◌≡◌}
-use Prim.Native.Nat.{◌-◌, ◌≤◌}
-use lib.ListN.{length}
-use Rattle.sheet_read.specs.Sheet.{same_to}
 use Rattle.sheet_read.proofs.LineLaws.{no_key, key_more, key-all}
 use borrow.Author.Rules.{rules}
 use Rattle.sheet_read.proofs.begins_with.Goals as goal

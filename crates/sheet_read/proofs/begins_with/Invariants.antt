@@ -2,7 +2,6 @@ use mathlib.Core.Path.{◌≡◌}
 use Prim.Native.Nat.{◌-◌, ◌≤◌}
 use lib.ListN.{length}
 use Rattle.sheet_read.specs.Sheet.{same_to}
-use Rattle.sheet_read.proofs.LineLaws.{no_key, key_more, key-all}
 use Rattle.sheet_read.proofs.begins_with.Given as goal
 
 abbrev pub invariant-loop-i : goal.invariant-loop-i

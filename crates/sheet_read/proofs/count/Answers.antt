@@ -1,6 +1,4 @@
-use Prim.Native.Nat.{◌-◌, ◌≤◌}
-use Rattle.sheet_read.specs.Sheet.{most_words}
-use Rattle.sheet_read.proofs.SheetLaws.{Counted, counted_none, counted-more, counted_stop, counted-full}
+use Rattle.sheet_read.proofs.SheetLaws.{counted_none, counted-more, counted_stop, counted-full}
 use borrow.Author.Rules.{rules}
 use Rattle.sheet_read.proofs.count.Goals as goal
 

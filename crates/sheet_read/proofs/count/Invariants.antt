@@ -1,6 +1,6 @@
 use Prim.Native.Nat.{◌-◌, ◌≤◌}
 use Rattle.sheet_read.specs.Sheet.{most_words}
-use Rattle.sheet_read.proofs.SheetLaws.{Counted, counted_none, counted-more, counted_stop, counted-full}
+use Rattle.sheet_read.proofs.SheetLaws.{Counted}
 use Rattle.sheet_read.proofs.count.Given as goal
 
 abbrev pub invariant-loop-k : goal.invariant-loop-k

@@ -1,8 +1,6 @@
-use mathlib.Core.Path.{◌≡◌}
-use Prim.Native.Nat.{◌-◌, ◌≤◌}
 use Rattle.hexadecimal.specs.Hexadecimal.{all_at}
 use Rattle.hexadecimal.proofs.Laws.{all_none, all_more, reached}
-use Rattle.sheet_read.specs.Sheet.{is_mark, marks_from}
+use Rattle.sheet_read.specs.Sheet.{is_mark}
 use borrow.Author.Rules.{rules}
 use Rattle.sheet_read.proofs.marks.Goals as goal
 

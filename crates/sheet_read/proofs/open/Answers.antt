@@ -1,5 +1,4 @@
-use Prim.Native.Nat.{◌-◌, ◌≤◌}
-use Rattle.sheet_read.proofs.LineLaws.{Opened, opened-none, opened-more, opened-length, opened-room, opened-all}
+use Rattle.sheet_read.proofs.LineLaws.{opened-none, opened-more, opened-length, opened-room, opened-all}
 use borrow.Author.Rules.{rules}
 use Rattle.sheet_read.proofs.open.Goals as goal
 

@@ -1,5 +1,5 @@
 use Prim.Native.Nat.{◌-◌, ◌≤◌}
-use Rattle.sheet_read.proofs.LineLaws.{Opened, opened-none, opened-more, opened-length, opened-room, opened-all}
+use Rattle.sheet_read.proofs.LineLaws.{Opened}
 use Rattle.sheet_read.proofs.open.Given as goal
 
 abbrev pub invariant-loop-i : goal.invariant-loop-i

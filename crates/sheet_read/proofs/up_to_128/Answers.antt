@@ -1,4 +1,3 @@
-use Prim.Native.Nat.{◌≤◌}
 use Rattle.laws.proofs.Chain.{chain}
 use Rattle.sheet_read.specs.Sheet.{up_to_128}
 use Rattle.sheet_read.proofs.LineLaws.{decimal-from, no_zero}

@@ -1,7 +1,5 @@
-use Prim.Native.Nat.{◌-◌}
 use native.Mathlib.Omega.{arith}
-use lib.ListN.{length, drop}
-use Rattle.text.proofs.TextLaws.{Left, whole, byte-less, all_done, left-kept}
+use Rattle.text.proofs.TextLaws.{whole, byte-less, all_done, left-kept}
 use Rattle.text.proofs.put.Goals as goal
 
 pub loop-i-init : goal.loop-i-init

@@ -1,7 +1,5 @@
-use Prim.Native.Nat.{◌≤◌}
 use native.Mathlib.Omega.{arith}
-use Rattle.text.specs.Text.{hex}
-use Rattle.text.proofs.TextLaws.{Left, whole, digit-less, digits-done, hex-room, digits-end, left-kept}
+use Rattle.text.proofs.TextLaws.{whole, digit-less, digits-done, hex-room, digits-end, left-kept}
 use Rattle.text.proofs.put_hex.Goals as goal
 
 pub loop-left-init : goal.loop-left-init

@@ -1,7 +1,6 @@
 use Prim.Native.Nat.{◌≤◌}
-use native.Mathlib.Omega.{arith}
 use Rattle.text.specs.Text.{hex}
-use Rattle.text.proofs.TextLaws.{Left, whole, digit-less, digits-done, hex-room, digits-end, left-kept}
+use Rattle.text.proofs.TextLaws.{Left}
 use Rattle.text.proofs.put_hex.Given as goal
 
 abbrev pub invariant-loop-left : goal.invariant-loop-left

@@ -1,6 +1,5 @@
-use Prim.Native.Nat.{suc, ◌-◌}
 use native.Mathlib.Omega.{arith}
-use Rattle.unit_stride.proofs.UnmaskedLaws.{Scanned, scanned-none, scanned-more, scanned-closed, scanned-all}
+use Rattle.unit_stride.proofs.UnmaskedLaws.{scanned-none, scanned-more, scanned-closed, scanned-all}
 use Rattle.unit_stride.proofs.first_closed.Goals as goal
 
 pub loop-page-init : goal.loop-page-init

@@ -1,8 +1,5 @@
-use Prim.Native.Nat.{◌-◌}
-use mathlib.Core.Bool.{true}
 use native.Mathlib.Omega.{arith}
-use Rattle.machine.specs.Effect.{active_of}
-use Rattle.unit_stride.proofs.MaskedLaws.{Walking, walking-none, walking-more, walking-fault, walking-done}
+use Rattle.unit_stride.proofs.MaskedLaws.{walking-none, walking-more, walking-fault, walking-done}
 use Rattle.unit_stride.proofs.MaskedLaws.{index-fits, mask_at, tally-few, page-few}
 use Rattle.unit_stride.proofs.walked.Goals as goal
 
