@@ -72,12 +72,12 @@ same-lane w w' a a' b b' d o o' e f g h = rw (e, f, g, h)
 -- ---- a plan that has a kernel
 
 module _ (size vlenb : ℕ) (e : Elementwise) (k : Compute) (from end number : ℕ) (h : Computable size vlenb e k from end)
-    (q : number < 7 → k.op ≡ operation_at number) (t : not ((not e.masked && ltb number 7) && ltb from end) ≡ false) where
+    (q : number < 7 → k.op ≡ operation_at number) (t : ((not e.masked && ltb number 7) && ltb from end) ≡ true) where
   abbrev n : ℕ
   n = k.sew / 8
 
   tests : ((not e.masked && ltb number 7) && ltb from end) ≡ true
-  tests = not-false ((not e.masked && ltb number 7) && ltb from end) t
+  tests = t
 
   there : (not e.masked && ltb number 7) ≡ true
   there = both_left (not e.masked && ltb number 7) (ltb from end) tests

@@ -6,13 +6,13 @@ use Rattle.block_copy.proofs.CopyLaws.{stored, loaded}
 use Rattle.block_copy.proofs.transferred.Goals as goal
 
 pub returns-then-n-in_order : goal.returns-then-n-in_order
-returns-then-n-in_order c = declined
+returns-then-n-in_order c = λ x d. declined
 
 pub granted-requires : goal.granted-requires
 granted-requires c = search is-packed
 
 pub returns-then-not-granted : goal.returns-then-not-granted
-returns-then-not-granted c = declined
+returns-then-not-granted c = λ x d. declined
 
 pub overflow_mul-at : goal.overflow_mul-at
 overflow_mul-at c = search (arith, register-fits)

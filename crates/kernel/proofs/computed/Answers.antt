@@ -5,7 +5,7 @@ use Rattle.kernel.proofs.NumberLaws.{vd-start, vs2-start, vs1-start, placed, is-
 use Rattle.kernel.proofs.computed.Goals as goal
 
 pub returns-then-not-e-number : goal.returns-then-not-e-number
-returns-then-not-e-number c = declined
+returns-then-not-e-number c = λ rights memory x d. declined
 
 pub overflow_mul-s : goal.overflow_mul-s
 overflow_mul-s c = omega (arith, vd-start _ _ _ _ _ _ _ c.requires c.number_of-number.ensures c.if-not-e-number.false)

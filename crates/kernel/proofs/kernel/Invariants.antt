@@ -4,7 +4,7 @@ use Rattle.kernel.proofs.KernelLaws.{Sweeping, sweeping-none, sweeping-more, swe
 use Rattle.kernel.proofs.kernel.Given as goal
 
 abbrev pub invariant-loop-i : goal.invariant-loop-i
-invariant-loop-i l = Sweeping (record { l.vd = l.vd; l.vs2 = l.vs2; l.vs1 = l.vs1; from = l.initial.i; l.end = l.end }) l.op l.scalar l.x l.n l.initial.registers l.registers l.i
+invariant-loop-i l = Sweeping (record { vd = l.vd; vs2 = l.vs2; vs1 = l.vs1; from = l.initial.i; end = l.end }) l.op l.scalar l.x l.n l.initial.registers l.registers l.i
 
 abbrev pub decreases-loop-i : goal.decreases-loop-i
 decreases-loop-i l = l.end - l.i

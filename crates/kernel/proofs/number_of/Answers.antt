@@ -2,4 +2,4 @@ use native.Mathlib.Omega.{arith}
 use Rattle.kernel.proofs.number_of.Goals as goal
 
 pub returns-in_default : goal.returns-in_default
-returns-in_default c = absurd (omega arith)
+returns-in_default c = λ l. absurd (omega arith)
