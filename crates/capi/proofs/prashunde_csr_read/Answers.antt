@@ -3,4 +3,4 @@ use borrow.Author.Rules.{rules}
 use Rattle.capi.proofs.prashunde_csr_read.Goals as goal
 
 pub returns : goal.returns
-returns c = (search read_number, (search read-value, search rules))
+returns c = record { value = search read_number; value_after = search read-value; control_value = search rules }

@@ -3,4 +3,4 @@ use borrow.Author.Rules.{rules}
 use Rattle.capi.proofs.small.prashunde_small_access_check.Goals as goal
 
 pub returns : goal.returns
-returns c = (search told, (search rules, (search rules, (search rules, (search rules, search rules)))))
+returns c = record { tells = search told; registers_value = (search rules, (search rules, (search rules, (search rules, search rules)))) }
