@@ -3,8 +3,8 @@
  * 128 and ELEN 64, the smaller one VLEN 64 and ELEN 32 (Zve32x). The calls of the smaller board are those whose names begin with
  * prashunde_small_.
  *
- * `rt staticlib capi` writes the library, target/staticlib/libcapi.a, for x86-64 Linux. It needs no other library, has no state of its own,
- * allocates nothing, and each call returns. Calls on different parts may run at the same time on different threads.
+ * `rt lib`, in crates/capi, writes the library, crates/capi/out/libcapi.a, for x86-64 Linux. It needs no other library, has no state of its
+ * own, allocates nothing, and each call returns. Calls on different parts may run at the same time on different threads.
  *
  * THE PARTS that a caller lends:
  *   registers   512 bytes: vector register vN begins at byte 16 * N, lowest byte first. On the smaller board 256 bytes, 8 * N

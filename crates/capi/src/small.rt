@@ -63,10 +63,10 @@ pub extern "C" fn prashunde_small_access_check(
         (given registers.now scalars.now memory.now rights.now
         (record_of control.now)))
         result element.new pages.new page.new right.new }
-    ensures registers_value { (registers.now ≡ registers.now)
-        × ((scalars.now ≡ scalars.now)
-        × ((memory.now ≡ memory.now)
-        × ((rights.now ≡ rights.now) × (control.now ≡ control.now)))) }
+    ensures registers_value { (registers.exit.now ≡ registers.entry.now)
+        × ((scalars.exit.now ≡ scalars.entry.now)
+        × ((memory.exit.now ≡ memory.entry.now)
+        × ((rights.exit.now ≡ rights.entry.now) × (control.exit.now ≡ control.entry.now)))) }
 {
     let checked = access_check::small_check(
         word,
@@ -83,7 +83,7 @@ pub extern "C" fn prashunde_small_access_check(
 pub extern "C" fn prashunde_small_csr_read(csr: u64, control: &[u64; 6], value: &mut u64) -> u64
     ensures value { result ≡ number_of (read_of small (record_of control.now) csr).answer }
     ensures value_after { value.new ≡ (read_of small (record_of control.now) csr).value }
-    ensures control_value { control.now ≡ control.now }
+    ensures control_value { control.exit.now ≡ control.entry.now }
 {
     crossing::read(csr::small_read(Control::of_fields(*control), csr), value)
 }
