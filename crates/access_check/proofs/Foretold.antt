@@ -144,7 +144,8 @@ module _ (b : Board) (w : Valid b) (word : ℕ) (s : State) where
   same_answer = by-outcome (λ c. is_unit_stride (decode_of word) ≡ true → c.answer ≡ o.answer)
       (λ t u. refl) (λ t u v. refl) (λ u v. absurd (subst T u (subst T (sym v) tt)))
 
-  nothing : changes_nothing (access_check_of b word s).answer ≡ true → access_check_of b word s ≡ nothing_tested (access_check_of b word s).answer
+  nothing : changes_nothing (access_check_of b word s).answer ≡ true
+      → access_check_of b word s ≡ nothing_tested (access_check_of b word s).answer
   nothing = by-outcome (λ c. changes_nothing c.answer ≡ true → c ≡ nothing_tested c.answer)
       (λ t e. refl) (λ t u e. absurd (subst T t (subst T (sym e) tt))) (λ u e. refl)
 

@@ -164,7 +164,8 @@ module _ (file memory : List ℕ) (at a : ℕ) where
 
     memory-next : (store : Bool) → Bytes file
         → memory_after store (suc j * n)
-        ≡ cond store (with_bytes (memory_after store (j * n)) (a + j * n) n (element_at vlenb (file_after store (j * n)) reg (8 * n) (v + j)))
+        ≡ cond store
+        (with_bytes (memory_after store (j * n)) (a + j * n) n (element_at vlenb (file_after store (j * n)) reg (8 * n) (v + j)))
         (memory_after store (j * n))
     memory-next true m = copied-element memory a file at m n j ∙ rw (at-several, place)
     memory-next false m = refl

@@ -233,7 +233,8 @@ PlanPrepared b k (P.OneTurn t) = Unit {0}
 PlanPrepared b k (P.Elements e) = is_there e.action ≡ true → operands_fit b.elen e ≡ true → k < e.end → Prepared b e k
 
 module _ (b : Board) (x : List ℕ) (c : Control) (w : Valid b) (t : Possible b c) (k : ℕ) where
-  computing-prepared : (a : Arithmetic) → ArithmeticFits a → InRange (computing_of x c a) → PlanPrepared b k (P.Elements (computing_of x c a))
+  computing-prepared : (a : Arithmetic) → ArithmeticFits a → InRange (computing_of x c a)
+      → PlanPrepared b k (P.Elements (computing_of x c a))
   computing-prepared a f u q h l =
       let y = computing-typed b x c a t (omega arith) in
       record { ready = typed-ready b c.vtype (computing_of x c a) k w y h u l; action = λ file z. computing-fits b x c a y f q file z k }

@@ -29,7 +29,8 @@ fn ended(
     vstart: u64,
     vxsat: u64,
 ) -> Turned
-    ensures { result ≡ record { answer = answer; passed = passed; place = place; control = dirtied (with_vxsat (with_vstart c vstart) vxsat) } }
+    ensures { result
+        ≡ record { answer = answer; passed = passed; place = place; control = dirtied (with_vxsat (with_vstart c vstart) vxsat) } }
 {
     let control = c.with_vstart(vstart).with_vxsat(vxsat).dirtied();
     Turned {

@@ -2,8 +2,8 @@
 //
 // The compiler puts a function in place of a call where what the call's literals leave of the function is short. It sees the literals that
 // go by value, which a struct and an enum do not: so the operation, the kind of the second operand and the size of an element are a
-// number, a bool and a number. `by_operation`, `by_operand` and `by_size` make each of them a literal in turn, and each pair of calls of one
-// function differs in two arguments or is short: calls that differ in one would be made one again.
+// number, a bool and a number. `by_operation`, `by_operand` and `by_size` make each of them a literal in turn, and each pair of calls of
+// one function differs in two arguments or is short: calls that differ in one would be made one again.
 
 #![tactic(auto)]
 

@@ -18,7 +18,8 @@ use Rattle.layout.specs.Layout.{bytes_at}
 use Rattle.sheet_read.proofs.LineLaws.{placed}
 use Rattle.control.specs.Control.{reset}
 use Rattle.hexadecimal.specs.Hexadecimal.{number_at}
-use Rattle.sheet_read.specs.Sheet.{marks_from, rights_at, x10_from, x11_from, x12_from, allow_of, first_word, count_at, words_at, most_words}
+use Rattle.sheet_read.specs.Sheet.{marks_from, rights_at, x10_from, x11_from, x12_from, allow_of, first_word, count_at, words_at}
+use Rattle.sheet_read.specs.Sheet.{most_words}
 use Rattle.sheet_read.specs.Sheet.{first_bad, sheet_of}
 use Rattle.machine.specs.State.{State}
 use Rattle.machine.specs.Call.{given}
