@@ -46,3 +46,8 @@ written_of b c csr x =
 abbrev pub record_after : Control → Result Control Answer → Control
 record_after c (Ok d) = d
 record_after c (Err a) = c
+
+-- the answer of a write, where the record is lent
+abbrev pub outcome : Result Control Answer → Result (Unit {0}) Answer
+outcome (Ok d) = Ok tt
+outcome (Err a) = Err a
