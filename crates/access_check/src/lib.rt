@@ -3,7 +3,7 @@
 #![tactic(auto)]
 
 ghost use Rattle.std.specs.Prelude.{◌≡◌, ◌-◌, length};
-ghost use Rattle.control.specs.Board.{Valid, base, small};
+ghost use Rattle.control.specs.Board.{base, small};
 ghost use Rattle.plan.specs.declared.Action.TheVariants as Act;
 ghost use Rattle.plan.specs.declared.Transfer.{Transfer};
 ghost use Rattle.machine.specs.Call.{given};
@@ -103,7 +103,6 @@ fn check_on(
     rights: &[u8],
     control: Control,
 ) -> Checked
-    requires { Valid board }
     ensures { result ≡ access_check_of board word
         (given registers.now scalars.now memory.now rights.now control) }
 {

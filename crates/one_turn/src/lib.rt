@@ -61,7 +61,7 @@ fn type_of(x: &[u64], vtype: TypeSource) -> u64
 
 // The control record after a setting instruction; rd gets the new vl.
 fn setting(board: Board, scalars: &mut [u64], control: Control, s: Setting) -> Control
-    requires { Valid board × ((length scalars.old ≡ 32) × SettingFits s) }
+    requires { (length scalars.old ≡ 32) × SettingFits s }
     ensures { (result ≡ set_of board control (type_from scalars.old s.vtype) (avl_from scalars.old s.avl))
         × (scalars.new ≡ with_scalar scalars.old s.rd result.vl) }
 {

@@ -172,11 +172,9 @@ fn read_at(vtype: u64, size: Size, reg: usize) -> Read
     match size {
         Size::Absent => Read::Constant(0),
         Size::Bit => Read::Bit(reg),
-        Size::Eighth => Read::Element(group),
-        Size::Quarter => Read::Element(group),
-        Size::Half => Read::Element(group),
-        Size::Single => Read::Element(group),
-        Size::Double => Read::Element(group),
+        Size::Eighth | Size::Quarter | Size::Half | Size::Single | Size::Double => {
+            Read::Element(group)
+        }
     }
 }
 
@@ -241,16 +239,9 @@ fn v0_read(v0: V0, masked: bool) -> Read
     ensures { result ≡ v0_read v0 masked }
 {
     match v0 {
-        V0::Masks => Read::Constant(0),
         V0::Operand => Read::Bit(0),
-        V0::MaybeOperand => {
-            if masked {
-                Read::Bit(0)
-            } else {
-                Read::Constant(0)
-            }
-        }
-        V0::Unused => Read::Constant(0),
+        V0::MaybeOperand => read_if(masked, Read::Bit(0)),
+        V0::Masks | V0::Unused => Read::Constant(0),
     }
 }
 
@@ -258,12 +249,7 @@ fn v0_read(v0: V0, masked: bool) -> Read
 fn v0_masks(v0: V0, masked: bool) -> bool
     ensures { result ≡ v0_masks v0 masked }
 {
-    match v0 {
-        V0::Masks => masked,
-        V0::Operand => false,
-        V0::MaybeOperand => false,
-        V0::Unused => false,
-    }
+    masked & matches!(v0, V0::Masks)
 }
 
 // An arithmetic instruction.
@@ -320,12 +306,7 @@ fn moved_elements(vtype: u64, op: PermutationOp, reg: usize) -> Read
 {
     match op {
         PermutationOp::Vid => Read::Constant(0),
-        PermutationOp::Vslideup => read_at(vtype, Size::Single, reg),
-        PermutationOp::Vslidedown => read_at(vtype, Size::Single, reg),
-        PermutationOp::Vslide1up => read_at(vtype, Size::Single, reg),
-        PermutationOp::Vslide1down => read_at(vtype, Size::Single, reg),
-        PermutationOp::Vrgather => read_at(vtype, Size::Single, reg),
-        PermutationOp::Vrgatherei16 => read_at(vtype, Size::Single, reg),
+        _ => read_at(vtype, Size::Single, reg),
     }
 }
 
@@ -337,18 +318,19 @@ fn moved_by(x: &[u64], vtype: u64, op: PermutationOp, source: Source) -> Read
     let sew = Control::sew(vtype);
     match op {
         PermutationOp::Vid => Read::Constant(0),
-        PermutationOp::Vslideup => index_of(x, vtype, sew, source),
-        PermutationOp::Vslidedown => index_of(x, vtype, sew, source),
-        PermutationOp::Vslide1up => second(x, vtype, Size::Single, true, source),
-        PermutationOp::Vslide1down => second(x, vtype, Size::Single, true, source),
-        PermutationOp::Vrgather => index_of(x, vtype, sew, source),
+        PermutationOp::Vslideup | PermutationOp::Vslidedown | PermutationOp::Vrgather => {
+            index_of(x, vtype, sew, source)
+        }
+        PermutationOp::Vslide1up | PermutationOp::Vslide1down => {
+            second(x, vtype, Size::Single, true, source)
+        }
         PermutationOp::Vrgatherei16 => index_of(x, vtype, 16, source),
     }
 }
 
 // A permutation that goes element by element.
 fn permuting(board: Board, x: &[u64], control: Control, a: PermutationInstruction) -> Elementwise
-    requires { Valid board × ((length x.now ≡ 32) × ((sew_of control.vtype ≤ 64) × PermutationFits a)) }
+    requires { (length x.now ≡ 32) × ((sew_of control.vtype ≤ 64) × PermutationFits a) }
     ensures { result ≡ permuting_of board x.now control a }
 {
     let op = a.op;
@@ -432,7 +414,7 @@ fn register_at(eew: usize, reg: usize) -> Group
 
 // A load or a store, by its addressing mode.
 fn transferring(board: Board, x: &[u64], control: Control, a: Access) -> Elementwise
-    requires { Valid board × ((length x.now ≡ 32) × ((control.vl ≤ 128) × AccessFits a)) }
+    requires { (length x.now ≡ 32) × ((control.vl ≤ 128) × AccessFits a) }
     ensures { result ≡ transferring_of board x.now control a }
 {
     let mode = a.mode;
@@ -477,16 +459,8 @@ fn scalar_size(op: ReductionOp) -> Size
     ensures { result ≡ scalar_size op }
 {
     match op {
-        ReductionOp::Vredsum => Size::Single,
-        ReductionOp::Vredand => Size::Single,
-        ReductionOp::Vredor => Size::Single,
-        ReductionOp::Vredxor => Size::Single,
-        ReductionOp::Vredminu => Size::Single,
-        ReductionOp::Vredmin => Size::Single,
-        ReductionOp::Vredmaxu => Size::Single,
-        ReductionOp::Vredmax => Size::Single,
-        ReductionOp::Vwredsumu => Size::Double,
-        ReductionOp::Vwredsum => Size::Double,
+        ReductionOp::Vwredsumu | ReductionOp::Vwredsum => Size::Double,
+        _ => Size::Single,
     }
 }
 
@@ -565,8 +539,7 @@ fn scalar_moving(vtype: u64, a: ScalarMoveInstruction) -> ScalarMove
 
 // The plan of a decoded word.
 pub fn plan_of(board: Board, x: &[u64], control: Control, instruction: Instruction) -> Plan
-    requires { Valid board
-        × ((length x.now ≡ 32) × ((sew_of control.vtype ≤ 64) × ((control.vl ≤ 128) × Fits instruction))) }
+    requires { (length x.now ≡ 32) × ((sew_of control.vtype ≤ 64) × ((control.vl ≤ 128) × Fits instruction)) }
     ensures { result ≡ plan_of board x.now control instruction }
 {
     match instruction {

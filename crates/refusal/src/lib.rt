@@ -3,7 +3,7 @@
 #![tactic(auto)]
 
 ghost use Rattle.std.specs.Prelude.{◌≡◌, max, length};
-ghost use Rattle.control.specs.Board.{Valid, base};
+ghost use Rattle.control.specs.Board.{base, small};
 ghost use Rattle.refusal.specs.Refusal.{rights_fit, refusal_of};
 
 use answer::{Answer, Verdict};
@@ -35,7 +35,6 @@ pub fn refusal_on(
     rights: &[u8],
     control: Control,
 ) -> Verdict
-    requires { Valid board }
     ensures { result ≡ refusal_of board registers scalars memory rights.now control }
 {
     if registers as u64 != 32 * (board.vlenb as u64) {

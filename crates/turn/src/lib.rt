@@ -4,7 +4,7 @@
 
 ghost use Rattle.std.specs.Prelude.{◌≡◌};
 ghost use Rattle.answer.specs.declared.Answer.TheVariants.{Finished};
-ghost use Rattle.control.specs.Board.{Valid, base, small};
+ghost use Rattle.control.specs.Board.{base, small};
 ghost use Rattle.control.specs.Control.{dirtied};
 ghost use Rattle.access.specs.Access.{nowhere};
 ghost use Rattle.machine.specs.Call.{given, left};
@@ -47,7 +47,6 @@ fn turn_on(
     rights: &[u8],
     control: Control,
 ) -> Turned
-    requires { Valid board }
     ensures { left result registers.new scalars.new memory.new rights.now
         ≡ turn_of board word allowance
         (given registers.old scalars.old memory.old rights.now control) }

@@ -1,22 +1,21 @@
 use Rattle.turn.proofs.Turns.{accepted-scalars, accepted-sew, accepted-vl, decoded-fits}
 use Rattle.turn.proofs.Turns.{refused-word, illegal-word, one-turn-performable, one-turn-word, elements-runnable, elements-word}
-use borrow.Author.Rules.{rules}
 use Rattle.turn.proofs.turn_on.Goals as goal
 
 pub returns-in-Refused : goal.returns-in-Refused
 returns-in-Refused c = search refused-word
 
 pub checked-requires : goal.checked-requires
-checked-requires c = (search rules, (search accepted-scalars, (search accepted-sew, (search accepted-vl, search decoded-fits))))
+checked-requires c = (search accepted-scalars, (search accepted-sew, (search accepted-vl, search decoded-fits)))
 
 pub perform-requires : goal.perform-requires
-perform-requires c = one-turn-performable _ _ _ _ _ _ _ _ _ _ _ c.requires
+perform-requires c = one-turn-performable _ _ _ _ _ _ _ _ _ _ _
     c.refusal_on-verdict.ensures c.in_default.is c.decode.ensures
     c.checked.ensures c.in-OneTurn.is
 
 pub elements-requires : goal.elements-requires
 elements-requires c = elements-runnable _ _ _ _ _ _ _ _ _ _ c.refusal_on-verdict.ensures c.in_default.is
-    c.decode.ensures c.checked.ensures _ c.requires
+    c.decode.ensures c.checked.ensures _
     c.in-Elements.is
 
 pub returns-in-Illegal : goal.returns-in-Illegal
