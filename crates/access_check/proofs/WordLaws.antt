@@ -271,8 +271,3 @@ module _ (b : Board) (word : ℕ) (file x memory rights : List ℕ) (c : Control
             → Tested (active_of b.vlenb file e.masked) rights (length memory) t c.vstart (e.end - c.vstart) r)
             → r ≡ access_check_of b word before
         elements-word r = elements-check b file x memory rights c e runs d (decoded-fits word d k) planned is-unit word r k
-
--- ---- the check on a board b is that on the board that a promise names, where b is that board
-pub checked-by : (b named : Board) (word : ℕ) (s : State) (r : Checked) → b ≡ named → r ≡ access_check_of b word s
-    → r ≡ access_check_of named word s
-checked-by b named word s r e h = rw (← e) h

@@ -3,7 +3,6 @@
 #![tactic(auto)]
 
 ghost use Rattle.std.specs.Prelude.{◌≡◌, ◌-◌, length};
-ghost use Rattle.control.specs.Board.{base, small};
 ghost use Rattle.plan.specs.declared.Action.TheVariants as Act;
 ghost use Rattle.plan.specs.declared.Transfer.{Transfer};
 ghost use Rattle.machine.specs.Call.{given};
@@ -93,8 +92,8 @@ fn elements(
     }
 }
 
-// Every word, on a board: refusals 32 to 36, then 2, then the elements.
-fn check_on(
+// What an uncut turn of the word would answer on a board, where it is a unit-stride access: refusals 32 to 36, then 2, then the elements.
+pub fn check(
     board: Board,
     word: u32,
     registers: &[u8],
@@ -106,7 +105,7 @@ fn check_on(
     ensures { result ≡ access_check_of board word
         (given registers.now scalars.now memory.now rights.now control) }
 {
-    let verdict = refusal::refusal_on(
+    let verdict = refusal::refusal(
         board,
         registers.len(),
         scalars.len(),
@@ -126,50 +125,4 @@ fn check_on(
         Plan::OneTurn(_) => nothing_tested(Answer::Illegal),
         Plan::Elements(e) => elements(board, registers, rights, memory.len(), control.vstart, e),
     }
-}
-
-// What an uncut turn of the word would answer, where it is a unit-stride access.
-pub fn check(
-    word: u32,
-    registers: &[u8],
-    scalars: &[u64],
-    memory: &[u8],
-    rights: &[u8],
-    control: Control,
-) -> Checked
-    ensures { result ≡ access_check_of base word
-        (given registers.now scalars.now memory.now rights.now control) }
-{
-    check_on(
-        Board::base(),
-        word,
-        registers,
-        scalars,
-        memory,
-        rights,
-        control,
-    )
-}
-
-// The same on the smaller board.
-pub fn small_check(
-    word: u32,
-    registers: &[u8],
-    scalars: &[u64],
-    memory: &[u8],
-    rights: &[u8],
-    control: Control,
-) -> Checked
-    ensures { result ≡ access_check_of small word
-        (given registers.now scalars.now memory.now rights.now control) }
-{
-    check_on(
-        Board::small(),
-        word,
-        registers,
-        scalars,
-        memory,
-        rights,
-        control,
-    )
 }

@@ -6,6 +6,7 @@ use mathlib.Core.Bool.{Bool, true, false, not, ◌&&◌}
 use mathlib.Core.List.{List, [], ◌∷◌}
 use mathlib.Core.Option.{Option, none, some}
 use native.Mathlib.Omega.{arith}
+use Rattle.std.specs.Prelude as rust
 use Rattle.laws.proofs.Apart.{both_left, both_right}
 use Rattle.laws.proofs.Chain.{either}
 use lib.Dec.{T}
@@ -15,8 +16,6 @@ use Rattle.answer.specs.declared.Verdict.{Verdict}
 use Rattle.answer.specs.declared.Verdict.TheVariants.{Accepted, Refused}
 use Rattle.control.specs.declared.Board.{Board}
 use Rattle.control.specs.declared.Control.{Control}
-use Rattle.control.specs.declared.Avl.{Avl}
-use Rattle.control.specs.declared.Avl.TheVariants.{To, Keep}
 use Rattle.control.specs.Board.{Valid}
 use Rattle.control.specs.Control.{dirty, with_vstart, with_vxsat, with_vs, set_of, keeps_of}
 use Rattle.control.specs.Vtype.{supported_of}
@@ -213,10 +212,10 @@ unfolding put_of
 put-vstart b (to_registers g i r) s h = h
 put-vstart b (to_memory a n x) s h = h
 
-set-vstart : (b : Board) (c : Control) (v : ℕ) (a : Avl) → (set_of b c v a).vstart ≡ 0
+set-vstart : (b : Board) (c : Control) (v : ℕ) (a : rust.Option ℕ) → (set_of b c v a).vstart ≡ 0
 unfolding set_of
-set-vstart b c v (To avl) = either (λ (c : Control). c.vstart ≡ 0) (supported_of b v) _ _ (λ t. refl) (λ t. refl)
-set-vstart b c v Keep = either (λ (c : Control). c.vstart ≡ 0) (supported_of b v && keeps_of b c v) _ _ (λ t. refl) (λ t. refl)
+set-vstart b c v (rust.Some avl) = either (λ (c : Control). c.vstart ≡ 0) (supported_of b v) _ _ (λ t. refl) (λ t. refl)
+set-vstart b c v rust.None = either (λ (c : Control). c.vstart ≡ 0) (supported_of b v && keeps_of b c v) _ _ (λ t. refl) (λ t. refl)
 
 mask-vstart : (vlenb vl : ℕ) (m : MaskInstruction) (s : Core) (o : MaskOp) → s.control.vstart ≡ 0
     → (mask_result vlenb vl m s o).control.vstart ≡ 0

@@ -6,11 +6,10 @@ use mathlib.Core.List.{List}
 use native.Mathlib.Omega.{arith}
 use lib.ListN.{length}
 use lib.Dec.{T, eqb}
+use Rattle.std.specs.Prelude.{Option, Some, None}
 use Rattle.laws.proofs.Apart.{both_left, both_right, apart}
 use Rattle.control.specs.declared.Board.{Board}
 use Rattle.control.specs.declared.Control.{Control}
-use Rattle.control.specs.declared.Avl.{Avl}
-use Rattle.control.specs.declared.Avl.TheVariants.{To, Keep}
 use Rattle.control.specs.Vtype.{vill, sew_of, supported_of}
 use Rattle.control.specs.Control.{with_vstart, set_of}
 use Rattle.control.proofs.Laws.{Possible, possible-apart, sew-ge, valid}
@@ -150,10 +149,10 @@ module _ (b : Board) (size : ℕ) (x : List ℕ) (c : Control) (t : OneTurn) (h 
       }
 
 -- a setting instruction takes nothing from vstart
-set-any-vstart : (b : Board) (c : Control) (v vtype : ℕ) (avl : Avl) → set_of b (with_vstart c v) vtype avl ≡ set_of b c vtype avl
+set-any-vstart : (b : Board) (c : Control) (v vtype : ℕ) (avl : Option ℕ) → set_of b (with_vstart c v) vtype avl ≡ set_of b c vtype avl
 unfolding set_of
-set-any-vstart b c v vtype (To n) = refl
-set-any-vstart b c v vtype Keep = refl
+set-any-vstart b c v vtype (Some n) = refl
+set-any-vstart b c v vtype None = refl
 
 pub setting-left : (b : Board) (t : OneTurn) (s : Setting) (file x x' : List ℕ) (c r : Control) → t ≡ O.Setting s
     → r ≡ set_of b c (type_from x s.vtype) (avl_from x s.avl) → x' ≡ with_scalar x s.rd r.vl → (memory : List ℕ)

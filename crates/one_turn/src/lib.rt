@@ -19,7 +19,7 @@ ghost use Rattle.execute.specs.Step.{core_at};
 ghost use Rattle.one_turn.specs.Holds.{Holds, Movable};
 ghost use Rattle.one_turn.specs.Performable.{Performable};
 
-use control::{Avl, Board, Control};
+use control::{Board, Control};
 use decode::{AvlSource, MaskInstruction, MaskOp, ScalarMoveOp, Setting, TypeSource};
 use plan::{OneTurn, ScalarMove};
 
@@ -37,15 +37,16 @@ fn put_scalar(x: &mut [u64], r: usize, z: u64)
 
 // ---- setting
 
-fn avl_of(x: &[u64], avl: AvlSource) -> Avl
+// The application vector length that is asked for; none where vl is kept.
+fn avl_of(x: &[u64], avl: AvlSource) -> Option<u64>
     requires { (length x.now ≡ 32) × AvlFits avl }
     ensures { result ≡ avl_from x.now avl }
 {
     match avl {
-        AvlSource::Register(r) => Avl::To(plan::scalar(x, r)),
-        AvlSource::Number(n) => Avl::To(n),
-        AvlSource::Largest => Avl::To(0xffff_ffff_ffff_ffff),
-        AvlSource::Kept => Avl::Keep,
+        AvlSource::Register(r) => Some(plan::scalar(x, r)),
+        AvlSource::Number(n) => Some(n),
+        AvlSource::Largest => Some(u64::MAX),
+        AvlSource::Kept => None,
     }
 }
 

@@ -2,7 +2,7 @@
 
 #![tactic(auto)]
 
-ghost use Rattle.std.specs.Prelude.{◌≡◌, max, length};
+ghost use Rattle.std.specs.Prelude.{◌≡◌, max};
 ghost use Rattle.control.specs.Board.{base, small};
 ghost use Rattle.refusal.specs.Refusal.{rights_fit, refusal_of};
 
@@ -27,7 +27,7 @@ fn rights_fit(rights: &[u8]) -> bool
 }
 
 // What a state handed in comes to on a board, by the lengths of its parts, its rights and its control record.
-pub fn refusal_on(
+pub fn refusal(
     board: Board,
     registers: usize,
     scalars: usize,
@@ -56,25 +56,4 @@ pub fn refusal_on(
         return Verdict::Refused(Answer::BadControl);
     }
     Verdict::Accepted
-}
-
-// What a state handed in comes to on the board of document 01.
-pub fn refusal(
-    registers: &[u8],
-    scalars: &[u64],
-    memory: &[u8],
-    rights: &[u8],
-    control: Control,
-) -> Verdict
-    ensures { result ≡ refusal_of base (length registers.now) (length scalars.now) (length memory.now)
-        rights.now control }
-{
-    refusal_on(
-        Board::base(),
-        registers.len(),
-        scalars.len(),
-        memory.len(),
-        rights,
-        control,
-    )
 }

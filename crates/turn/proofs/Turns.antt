@@ -174,8 +174,3 @@ module _ (b : Board) (word : ℕ) (file x memory rights : List ℕ) (c : Control
     pub elements-word : (n : ℕ) (e : Elementwise) (o : Outcome) → p ≡ P.Elements e → o ≡ plan_turn b (P.Elements e) n before
         → o ≡ turn_of b word n before
     elements-word n e o f = planned-turn n (P.Elements e) o (elements-planned b x c d p u e f).0
-
--- ---- the turn on a board b is that on the board that a promise names, where b is that board
-pub turned_by : (b named : Board) (word n : ℕ) (s : State) (o : Outcome) → b ≡ named → o ≡ turn_of b word n s
-    → o ≡ turn_of named word n s
-turned_by b named word n s o e h = rw (← e) h

@@ -4,7 +4,6 @@
 
 ghost use Rattle.std.specs.Prelude.{◌≡◌};
 ghost use Rattle.answer.specs.declared.Answer.TheVariants.{Finished};
-ghost use Rattle.control.specs.Board.{base, small};
 ghost use Rattle.control.specs.Control.{dirtied};
 ghost use Rattle.access.specs.Access.{nowhere};
 ghost use Rattle.machine.specs.Call.{given, left};
@@ -36,8 +35,9 @@ fn finished(control: Control) -> Turned
     answered(Answer::Finished, control.dirtied())
 }
 
-// Every word, on a board: refusals 32 to 36, then 2, then what its plan says.
-fn turn_on(
+// One turn of a word on a board, of at most `allowance` elements: refusals 32 to 36, then 2, then what its plan says. Answer and counts are
+// returned, the rest of what it leaves stands in the lent parts.
+pub fn turn(
     board: Board,
     word: u32,
     allowance: u32,
@@ -51,7 +51,7 @@ fn turn_on(
         ≡ turn_of board word allowance
         (given registers.old scalars.old memory.old rights.now control) }
 {
-    let verdict = refusal::refusal_on(
+    let verdict = refusal::refusal(
         board,
         registers.len(),
         scalars.len(),
@@ -76,56 +76,4 @@ fn turn_on(
             e,
         ),
     }
-}
-
-// One turn of a word, of at most `allowance` elements: answer and counts are returned, the rest of what it leaves stands in the lent parts.
-pub fn turn(
-    word: u32,
-    allowance: u32,
-    registers: &mut [u8],
-    scalars: &mut [u64],
-    memory: &mut [u8],
-    rights: &[u8],
-    control: Control,
-) -> Turned
-    ensures { left result registers.new scalars.new memory.new rights.now
-        ≡ turn_of base word allowance
-        (given registers.old scalars.old memory.old rights.now control) }
-{
-    turn_on(
-        Board::base(),
-        word,
-        allowance,
-        registers,
-        scalars,
-        memory,
-        rights,
-        control,
-    )
-}
-
-// The same on the smaller board.
-pub fn small_turn(
-    word: u32,
-    allowance: u32,
-    registers: &mut [u8],
-    scalars: &mut [u64],
-    memory: &mut [u8],
-    rights: &[u8],
-    control: Control,
-) -> Turned
-    ensures { left result registers.new scalars.new memory.new rights.now
-        ≡ turn_of small word allowance
-        (given registers.old scalars.old memory.old rights.now control) }
-{
-    turn_on(
-        Board::small(),
-        word,
-        allowance,
-        registers,
-        scalars,
-        memory,
-        rights,
-        control,
-    )
 }
