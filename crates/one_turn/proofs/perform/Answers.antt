@@ -5,7 +5,7 @@ use Rattle.one_turn.proofs.perform.Goals as goal
 use Rattle.one_turn.proofs.perform.Goals.{in-Mask, in-Reduction, in-Packing, in-ScalarMove}
 
 pub setting-requires : goal.setting-requires
-setting-requires c = (search rules, (search rules, search setting-fits))
+setting-requires c = (search rules, search setting-fits)
 
 pub returns-in-Setting : goal.returns-in-Setting
 returns-in-Setting c = search setting-left
