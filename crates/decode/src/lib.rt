@@ -3,9 +3,10 @@
 
 #![tactic(auto)]
 
-ghost use Rattle.std.specs.Prelude.{◌≡◌, ◌<◌};
+ghost use Rattle.std.specs.Prelude.{◌≡◌, ◌<◌, cond, eqb, Some, None};
 ghost use Rattle.decode.specs.declared.Entry.TheVariants.{MergeOrMove};
 ghost use Rattle.decode.specs.declared.Instruction.TheVariants as Ins;
+ghost use Rattle.decode.specs.Fields.{accessing, sized};
 ghost use Rattle.decode.specs.Listing.{vxunary0, vwxunary0, vmunary0, find, entry_of};
 ghost use Rattle.decode.specs.Word.{opcode, rd, funct3, rs1, rs2, vm, funct6, mop, mew, nf, masked};
 ghost use Rattle.decode.specs.Word.{vm_fits, source_of, resolved_of, operation_of, named_of, arithmetic_of};
@@ -762,27 +763,27 @@ fn arithmetic_of(word: u32) -> Instruction
 
 // ---- loads and stores
 
-// EEW by the width field (section 8.3); 0 for the widths of scalar floating point.
+// EEW by the width field (section 8.3); none for the widths of scalar floating point.
 #[tactic(auto, unfolding(crate::specs::Word::width_of))]
-fn width_of(word: u32) -> u64
-    ensures { result ≡ width_of (funct3 word) }
+fn width_of(word: u32) -> Option<u64>
+    ensures { result ≡ cond (eqb (width_of (funct3 word)) 0) None (Some (width_of (funct3 word))) }
 {
     match funct3(word) {
-        0b000 => 8,
-        0b101 => 16,
-        0b110 => 32,
-        0b111 => 64,
-        _ => 0,
+        0b000 => Some(8),
+        0b101 => Some(16),
+        0b110 => Some(32),
+        0b111 => Some(64),
+        _ => None,
     }
 }
 
-fn access_of(store: bool, mode: Mode, further: u32, word: u32) -> Instruction
-    ensures { result ≡ access store mode further word }
+fn access_of(store: bool, mode: Mode, further: u32, word: u32) -> Option<Access>
+    ensures { accessing result ≡ sized word (access store mode further word) }
 {
-    Instruction::Memory(Access {
+    Some(Access {
         store,
         mode,
-        eew: width_of(word),
+        eew: width_of(word)?,
         vd: rd(word) as usize,
         rs1: rs1(word) as usize,
         masked: masked(word),
@@ -791,21 +792,21 @@ fn access_of(store: bool, mode: Mode, further: u32, word: u32) -> Instruction
 }
 
 // Elements, or segments of nf + 1 fields (section 8.8).
-fn segment_of(store: bool, mode: Mode, word: u32) -> Instruction
-    ensures { result ≡ segment_of store mode word }
+fn segment_of(store: bool, mode: Mode, word: u32) -> Option<Access>
+    ensures { accessing result ≡ sized word (segment_of store mode word) }
 {
     access_of(store, mode, nf(word), word)
 }
 
 // vlm and vsm (section 8.4).
 #[tactic(auto, unfolding(crate::specs::Word::mask_of))]
-fn mask_of(store: bool, word: u32) -> Instruction
-    ensures { result ≡ mask_of store word }
+fn mask_of(store: bool, word: u32) -> Option<Access>
+    ensures { accessing result ≡ sized word (mask_of store word) }
 {
     if (vm(word) == 1) & (nf(word) == 0) & (funct3(word) == 0) {
         return access_of(store, Mode::MaskBytes, 0, word);
     }
-    Instruction::Illegal
+    None
 }
 
 // 1, 2, 4 or 8 registers.
@@ -817,36 +818,36 @@ fn whole_count(nf: u32) -> bool
 
 // Whole registers (section 8.9).
 #[tactic(auto, unfolding(crate::specs::Word::whole_of))]
-fn whole_of(store: bool, word: u32) -> Instruction
-    ensures { result ≡ whole_of store word }
+fn whole_of(store: bool, word: u32) -> Option<Access>
+    ensures { accessing result ≡ sized word (whole_of store word) }
 {
     let nf = nf(word);
     if (vm(word) == 1) & whole_count(nf) & (!store | (funct3(word) == 0)) {
         return access_of(store, Mode::Whole((nf + 1) as usize), 0, word);
     }
-    Instruction::Illegal
+    None
 }
 
 // lumop and sumop (section 8.2).
 #[tactic(auto, unfolding(crate::specs::Word::unit_of))]
-fn unit_of(store: bool, word: u32) -> Instruction
-    ensures { result ≡ unit_of store word }
+fn unit_of(store: bool, word: u32) -> Option<Access>
+    ensures { accessing result ≡ sized word (unit_of store word) }
 {
     match rs2(word) {
         0b00000 => segment_of(store, Mode::UnitStride, word),
         0b01000 => whole_of(store, word),
         0b01011 => mask_of(store, word),
-        _ => Instruction::Illegal,
+        _ => None,
     }
 }
 
 // mop and mew (sections 8.2, 8.3).
 #[tactic(auto, unfolding(crate::specs::Word::memory_of))]
-fn memory_of(store: bool, word: u32) -> Instruction
-    ensures { result ≡ memory_of store word }
+fn memory_of(store: bool, word: u32) -> Option<Access>
+    ensures { accessing result ≡ memory_of store word }
 {
-    if (width_of(word) == 0) | (mew(word) == 1) {
-        return Instruction::Illegal;
+    if mew(word) == 1 {
+        return None;
     }
     let field = rs2(word) as usize;
     match mop(word) {
@@ -863,8 +864,8 @@ pub fn decode(word: u32) -> Instruction
 {
     match opcode(word) {
         0x57 => arithmetic_of(word),
-        0x07 => memory_of(false, word),
-        0x27 => memory_of(true, word),
+        0x07 => memory_of(false, word).map_or(Instruction::Illegal, Instruction::Memory),
+        0x27 => memory_of(true, word).map_or(Instruction::Illegal, Instruction::Memory),
         _ => Instruction::Illegal,
     }
 }
