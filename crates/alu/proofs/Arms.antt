@@ -59,3 +59,5 @@ pub exact-is : (x y : ℕ) → x ≡ y → exact x ≡ exact y
 exact-is x y e = ap exact e
 
 pub ruleset ways = (clause, plain-clause, exact-is)
+
+pub ruleset arms = (ways, fits)

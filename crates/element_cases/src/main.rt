@@ -7,6 +7,7 @@ ghost use Rattle.std.specs.Prelude.{◌<◌, ◌≤◌, ◌^◌};
 ghost use Rattle.operation.specs.Shape.{eew_of};
 
 use decode::Instruction;
+use fixed::Vxrm;
 use operation::{Op, Size};
 
 // An operand cut to its width.
@@ -45,7 +46,7 @@ fn run(op: Op, line: &[u8]) {
     let b = cut(vs1, sew, hexadecimal::number(line, 31, 16));
     let d = hexadecimal::number(line, 48, 16);
     let c = hexadecimal::number(line, 65, 1) % 2;
-    let rm = fixed::vxrm_of(hexadecimal::number(line, 12, 1));
+    let rm = Vxrm::from(hexadecimal::number(line, 12, 1));
     let e = alu::element(op, sew, rm, a, b, d, c);
     io::print_hex(1, e.value, 16);
     if e.saturates {

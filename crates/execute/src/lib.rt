@@ -100,10 +100,7 @@ pub fn compute_element(
 pub fn address(t: Transfer, i: u64, offset: u64) -> u64
     ensures { result ≡ element_address t i offset }
 {
-    std::num::wrapping_add_u64(
-        std::num::wrapping_add_u64(t.base, width::mul64(i, t.stride)),
-        offset,
-    )
+    t.base.wrapping_add(i.wrapping_mul(t.stride)).wrapping_add(offset)
 }
 
 // Element i of the group that begins at the register reg, stored to memory from index a on or loaded from there.

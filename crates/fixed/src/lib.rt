@@ -5,15 +5,35 @@
 
 ghost use Rattle.std.specs.Prelude.{◌≡◌, ◌+◌, ◌*◌, ◌%◌, ◌<◌, ◌≤◌, ◌^◌, pos};
 ghost use Rattle.width.specs.Width.{Width};
-ghost use Rattle.fixed.specs.Round.{vxrm_of, increment, roundoff_unsigned, roundoff_signed, clip_unsigned, clip_signed};
+ghost use Rattle.fixed.specs.Round.{vxrm_of, increment, roundoff_unsigned, roundoff_signed, clip_unsigned, clip_signed, exact, saturated};
 ghost use Rattle.fixed.specs.Fixed.{vsaddu, vssubu, vsadd, vssub, vaaddu, vasubu, vaadd, vasub};
 ghost use Rattle.fixed.specs.Fixed.{vssrl, vssra, vnclipu, vnclip, vsmul};
 
-// An element's result, and whether it saturated.
+// An element's result, and whether it saturated. No Option: what saturated is a result too, and sets vxsat beside it (section 4.9).
 #[derive(Clone, Copy)]
 pub struct Element {
     pub value: u64,
     pub saturates: bool,
+}
+
+impl Element {
+    pub fn exact(value: u64) -> Element
+        ensures { result ≡ exact value }
+    {
+        Element {
+            value,
+            saturates: false,
+        }
+    }
+
+    pub fn saturated(value: u64) -> Element
+        ensures { result ≡ saturated value }
+    {
+        Element {
+            value,
+            saturates: true,
+        }
+    }
 }
 
 // The rounding modes, by their names in section 4.8.
@@ -26,14 +46,16 @@ pub enum Vxrm {
 }
 
 // The rounding mode of a vxrm number.
-pub fn vxrm_of(vxrm: u64) -> Vxrm
-    ensures { result ≡ vxrm_of vxrm }
-{
-    match vxrm {
-        0 => Vxrm::Rnu,
-        1 => Vxrm::Rne,
-        2 => Vxrm::Rdn,
-        _ => Vxrm::Rod,
+impl From<u64> for Vxrm {
+    ghost from_gives = { λ vxrm mode. mode ≡ vxrm_of vxrm };
+
+    fn from(vxrm: u64) -> Vxrm {
+        match vxrm {
+            0 => Vxrm::Rnu,
+            1 => Vxrm::Rne,
+            2 => Vxrm::Rdn,
+            _ => Vxrm::Rod,
+        }
     }
 }
 
@@ -44,15 +66,9 @@ pub fn clip_unsigned(sew: u64, v: u64) -> Element
 {
     let m = width::ones(sew);
     if m < v {
-        return Element {
-            value: m,
-            saturates: true,
-        };
+        return Element::saturated(m);
     }
-    Element {
-        value: v,
-        saturates: false,
-    }
+    Element::exact(v)
 }
 
 // z at least -2^(sew - 1) and at most 2^(sew - 1) - 1, else the nearer of these.
@@ -63,22 +79,12 @@ pub fn clip_signed(sew: u64, z: i64) -> Element
     let h = width::ones(sew) / 2;
     let top = h as i64;
     if z < -1 - top {
-        return Element {
-            value: h + 1,
-            saturates: true,
-        };
+        return Element::saturated(h + 1);
     }
     if top < z {
-        return Element {
-            value: h,
-            saturates: true,
-        };
+        return Element::saturated(h);
     }
-    let x = width::from_signed(sew, z);
-    Element {
-        value: x,
-        saturates: false,
-    }
+    Element::exact(width::from_signed(sew, z))
 }
 
 // vsaddu: the sum passes 2^sew - 1 where what a leaves to it is less than b.
@@ -88,15 +94,9 @@ pub fn saddu(sew: u64, a: u64, b: u64) -> Element
 {
     let m = width::ones(sew);
     if m - a < b {
-        return Element {
-            value: m,
-            saturates: true,
-        };
+        return Element::saturated(m);
     }
-    Element {
-        value: a + b,
-        saturates: false,
-    }
+    Element::exact(a + b)
 }
 
 // vssubu: a - b, or 0.
@@ -105,15 +105,9 @@ pub fn ssubu(sew: u64, a: u64, b: u64) -> Element
     ensures { result ≡ vssubu sew a b }
 {
     if a < b {
-        return Element {
-            value: 0,
-            saturates: true,
-        };
+        return Element::saturated(0);
     }
-    Element {
-        value: a - b,
-        saturates: false,
-    }
+    Element::exact(a - b)
 }
 
 // vsadd: the sum wraps where the operands have one sign and the sum the other.
@@ -123,29 +117,13 @@ pub fn sadd(sew: u64, a: u64, b: u64) -> Element
 {
     let h = width::ones(sew) / 2;
     let s = width::add(sew, a, b);
-    if a <= h {
-        if b <= h {
-            if h < s {
-                return Element {
-                    value: h,
-                    saturates: true,
-                };
-            }
-        }
-    } else {
-        if h < b {
-            if s <= h {
-                return Element {
-                    value: h + 1,
-                    saturates: true,
-                };
-            }
-        }
+    if a <= h && b <= h && h < s {
+        return Element::saturated(h);
     }
-    Element {
-        value: s,
-        saturates: false,
+    if h < a && h < b && s <= h {
+        return Element::saturated(h + 1);
     }
+    Element::exact(s)
 }
 
 // vssub: the difference wraps where the operands have different signs and the difference has the second's.
@@ -155,29 +133,13 @@ pub fn ssub(sew: u64, a: u64, b: u64) -> Element
 {
     let h = width::ones(sew) / 2;
     let s = width::sub(sew, a, b);
-    if a <= h {
-        if h < b {
-            if h < s {
-                return Element {
-                    value: h,
-                    saturates: true,
-                };
-            }
-        }
-    } else {
-        if b <= h {
-            if s <= h {
-                return Element {
-                    value: h + 1,
-                    saturates: true,
-                };
-            }
-        }
+    if a <= h && h < b && h < s {
+        return Element::saturated(h);
     }
-    Element {
-        value: s,
-        saturates: false,
+    if h < a && b <= h && s <= h {
+        return Element::saturated(h + 1);
     }
+    Element::exact(s)
 }
 
 // 2^d. The shift is apart, so that its callers see the power.
@@ -209,7 +171,7 @@ pub fn increment_of(rm: Vxrm, d: u64, last: u64, lost: u64) -> u64
         // 2, rdn: 0
         Vxrm::Rdn => 0,
         // 3, rod: 1 if the last kept bit is 0 and a lost bit is 1
-        Vxrm::Rod => if last == 0 && lost != 0 { 1 } else { 0 },
+        Vxrm::Rod => u64::from((last == 0) & (lost != 0)),
     }
 }
 
@@ -233,7 +195,7 @@ pub fn round_signed(rm: Vxrm, z: i64, d: u64) -> i64
     if d == 0 {
         return z;
     }
-    let kept = z >> (d as i64);
+    let kept = z >> d;
     let last = width::from_signed(1, kept);
     kept + (increment_of(rm, d, last, width::from_signed(d, z)) as i64)
 }

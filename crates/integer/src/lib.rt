@@ -1,5 +1,6 @@
 // The element operations of sections 12.1 to 12.9, 12.15 and 12.16 of document 000. `a` is the element of vs2, `b` that of vs1 (or the
-// scalar or immediate in its place), `c` the mask bit of v0.
+// scalar or immediate in its place), `c` the mask bit of v0. Each is an operation that the standard names and alu calls: two that differ in
+// a width or a sign alone (vadd and vwaddu, vminu and vmin) stay two.
 
 #![tactic(auto)]
 
@@ -10,8 +11,6 @@ ghost use Rattle.integer.specs.Integer.{vadd, vsub, vrsub, vwaddu, vwsubu, vwadd
 ghost use Rattle.integer.specs.Integer.{vadc, vmadc, vsbc, vmsbc, vand, vor, vxor, vsll, vsrl, vsra, vnsrl, vnsra};
 ghost use Rattle.integer.specs.Integer.{vmseq, vmsne, vmsltu, vmslt, vmsleu, vmsle, vmsgtu, vmsgt};
 ghost use Rattle.integer.specs.Integer.{vminu, vmin, vmaxu, vmax, vmerge, vmv};
-
-use width::flagged;
 
 pub mod mask;
 
@@ -68,6 +67,7 @@ pub fn extend(from: u64, to: u64, x: u64) -> u64
 }
 
 // vwadd: the sum of both sign-extended to 2 * sew bits.
+#[tactic(auto, using(crate::proofs::SumLaws::widening))]
 pub fn wadd(sew: u64, a: u64, b: u64) -> u64
     requires { Width (2 * sew) × ((a < 2 ^ sew) × (b < 2 ^ sew)) }
     ensures { result ≡ vwadd sew a b }
@@ -77,6 +77,7 @@ pub fn wadd(sew: u64, a: u64, b: u64) -> u64
 }
 
 // vwsub: a - b, both sign-extended to 2 * sew bits.
+#[tactic(auto, using(crate::proofs::SumLaws::widening))]
 pub fn wsub(sew: u64, a: u64, b: u64) -> u64
     requires { Width (2 * sew) × ((a < 2 ^ sew) × (b < 2 ^ sew)) }
     ensures { result ≡ vwsub sew a b }
@@ -86,6 +87,7 @@ pub fn wsub(sew: u64, a: u64, b: u64) -> u64
 }
 
 // vwadd.w: the sum, where a has 2 * sew bits already.
+#[tactic(auto, using(crate::proofs::SumLaws::widening))]
 pub fn wadd_w(sew: u64, a: u64, b: u64) -> u64
     requires { Width (2 * sew) × ((a < 2 ^ (2 * sew)) × (b < 2 ^ sew)) }
     ensures { result ≡ vwadd-w sew a b }
@@ -95,6 +97,7 @@ pub fn wadd_w(sew: u64, a: u64, b: u64) -> u64
 }
 
 // vwsub.w: a - b, where a has 2 * sew bits already.
+#[tactic(auto, using(crate::proofs::SumLaws::widening))]
 pub fn wsub_w(sew: u64, a: u64, b: u64) -> u64
     requires { Width (2 * sew) × ((a < 2 ^ (2 * sew)) × (b < 2 ^ sew)) }
     ensures { result ≡ vwsub-w sew a b }
@@ -123,6 +126,7 @@ pub fn sext(f: u64, sew: u64, a: u64) -> u64
 // ---- 12.4
 
 // vadc: the sum with the carry-in c, wrapped.
+#[tactic(auto, using(crate::proofs::SumLaws::cuts))]
 pub fn adc(sew: u64, a: u64, b: u64, c: u64) -> u64
     requires { Width sew }
     ensures { result ≡ vadc sew a b c }
@@ -139,6 +143,7 @@ pub fn madc(sew: u64, a: u64, b: u64, c: u64) -> u64
 }
 
 // vsbc: a - b less the borrow-in c, wrapped.
+#[tactic(auto, using(crate::proofs::SumLaws::cuts))]
 pub fn sbc(sew: u64, a: u64, b: u64, c: u64) -> u64
     requires { Width sew }
     ensures { result ≡ vsbc sew a b c }
@@ -151,10 +156,10 @@ pub fn msbc(sew: u64, a: u64, b: u64, c: u64) -> u64
     requires { c < 2 }
     ensures { result ≡ vmsbc sew a b c }
 {
-    if c == 1 {
-        msleu(sew, a, b)
-    } else {
+    if c == 0 {
         msltu(sew, a, b)
+    } else {
+        msleu(sew, a, b)
     }
 }
 
@@ -193,6 +198,7 @@ fn shift_signed(v: u64, w: u64, a: u64, b: u64) -> u64
 }
 
 // vsll: by the low lg2(sew) bits of b.
+#[tactic(auto, using(crate::proofs::ShiftLaws::left_is))]
 pub fn sll(sew: u64, a: u64, b: u64) -> u64
     requires { Width sew }
     ensures { result ≡ vsll sew a b }
@@ -236,40 +242,33 @@ pub fn nsra(sew: u64, a: u64, b: u64) -> u64
 
 // ---- 12.8
 
-// One of two numbers, by a test.
-fn choose(test: bool, x: u64, y: u64) -> u64
-    ensures { result ≡ cond test x y }
-{
-    if test { x } else { y }
-}
-
-// One of two numbers, by whether a is less than b, both signed.
-fn choose_less(sew: u64, a: u64, b: u64, x: u64, y: u64) -> u64
+// Whether a is less than b, both signed.
+fn less(sew: u64, a: u64, b: u64) -> bool
     requires { Width sew × ((a < 2 ^ sew) × (b < 2 ^ sew)) }
-    ensures { result ≡ cond (lt_z (signed sew a) (signed sew b)) x y }
+    ensures { result ≡ lt_z (signed sew a) (signed sew b) }
 {
-    choose(width::to_signed(sew, a) < width::to_signed(sew, b), x, y)
+    width::to_signed(sew, a) < width::to_signed(sew, b)
 }
 
 // vmseq: 1 where a is b.
 pub fn mseq(sew: u64, a: u64, b: u64) -> u64
     ensures { result ≡ vmseq sew a b }
 {
-    flagged(a == b)
+    u64::from(a == b)
 }
 
 // vmsne: 1 where it is not.
 pub fn msne(sew: u64, a: u64, b: u64) -> u64
     ensures { result ≡ vmsne sew a b }
 {
-    flagged(a != b)
+    u64::from(a != b)
 }
 
 // vmsltu: 1 where a is less, both unsigned.
 pub fn msltu(sew: u64, a: u64, b: u64) -> u64
     ensures { result ≡ vmsltu sew a b }
 {
-    flagged(a < b)
+    u64::from(a < b)
 }
 
 // vmslt: 1 where a is less, both signed.
@@ -277,14 +276,14 @@ pub fn mslt(sew: u64, a: u64, b: u64) -> u64
     requires { Width sew × ((a < 2 ^ sew) × (b < 2 ^ sew)) }
     ensures { result ≡ vmslt sew a b }
 {
-    choose_less(sew, a, b, 1, 0)
+    u64::from(less(sew, a, b))
 }
 
 // vmsleu: 1 where a is less or equal, both unsigned.
 pub fn msleu(sew: u64, a: u64, b: u64) -> u64
     ensures { result ≡ vmsleu sew a b }
 {
-    flagged(a <= b)
+    u64::from(a <= b)
 }
 
 // vmsle: 1 where a is less or equal, both signed.
@@ -292,7 +291,7 @@ pub fn msle(sew: u64, a: u64, b: u64) -> u64
     requires { Width sew × ((a < 2 ^ sew) × (b < 2 ^ sew)) }
     ensures { result ≡ vmsle sew a b }
 {
-    choose_less(sew, b, a, 0, 1)
+    u64::from(!less(sew, b, a))
 }
 
 // vmsgtu: 1 where b is less, both unsigned.
@@ -316,7 +315,7 @@ pub fn msgt(sew: u64, a: u64, b: u64) -> u64
 pub fn minu(sew: u64, a: u64, b: u64) -> u64
     ensures { result ≡ vminu sew a b }
 {
-    if a < b { a } else { b }
+    a.min(b)
 }
 
 // vmin: the smaller, both signed.
@@ -324,14 +323,14 @@ pub fn min(sew: u64, a: u64, b: u64) -> u64
     requires { Width sew × ((a < 2 ^ sew) × (b < 2 ^ sew)) }
     ensures { result ≡ vmin sew a b }
 {
-    choose_less(sew, a, b, a, b)
+    if less(sew, a, b) { a } else { b }
 }
 
 // vmaxu: the larger, both unsigned.
 pub fn maxu(sew: u64, a: u64, b: u64) -> u64
     ensures { result ≡ vmaxu sew a b }
 {
-    if a < b { b } else { a }
+    a.max(b)
 }
 
 // vmax: the larger, both signed.
@@ -339,7 +338,7 @@ pub fn max(sew: u64, a: u64, b: u64) -> u64
     requires { Width sew × ((a < 2 ^ sew) × (b < 2 ^ sew)) }
     ensures { result ≡ vmax sew a b }
 {
-    choose_less(sew, a, b, b, a)
+    if less(sew, a, b) { b } else { a }
 }
 
 // ---- 12.15, 12.16
@@ -348,7 +347,7 @@ pub fn max(sew: u64, a: u64, b: u64) -> u64
 pub fn merge(sew: u64, a: u64, b: u64, c: u64) -> u64
     ensures { result ≡ vmerge sew a b c }
 {
-    choose(c == 1, b, a)
+    if c == 1 { b } else { a }
 }
 
 // vmv: b.

@@ -83,7 +83,7 @@ fn count(registers: &[u8], vlenb: usize, m: MaskInstruction, vl: usize) -> u64
     let mut n: u64 = 0;
     let mut i: usize = 0;
     while i < vl {
-        n += width::flagged(execute::set_at(registers, vlenb, m.masked, m.vs2, i));
+        n += u64::from(execute::set_at(registers, vlenb, m.masked, m.vs2, i));
         i += 1;
     }
     n
@@ -122,9 +122,9 @@ fn first_bit(op: MaskOp, i: usize, first: usize) -> u64
     ensures { result ≡ first_bit op i first }
 {
     match op {
-        MaskOp::Vmsbf => width::flagged(i < first),
-        MaskOp::Vmsif => width::flagged(i <= first),
-        MaskOp::Vmsof => width::flagged(i == first),
+        MaskOp::Vmsbf => u64::from(i < first),
+        MaskOp::Vmsif => u64::from(i <= first),
+        MaskOp::Vmsof => u64::from(i == first),
         MaskOp::Vcpop => 0,
         MaskOp::Vfirst => 0,
     }

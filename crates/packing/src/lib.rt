@@ -50,7 +50,7 @@ fn step(registers: &mut [u8], vlenb: usize, p: Packing, i: usize, n: usize) -> u
 {
     let op = p.op;
     let set = execute::set_at(registers, vlenb, p.masked, p.mask, i);
-    let next = n + width::flagged(set) as usize;
+    let next = n + usize::from(set);
     match op {
         PackOp::Viota => {
             count_into(registers, vlenb, p, i, n);

@@ -272,7 +272,7 @@ fn computing(x: &[u64], control: Control, a: Arithmetic) -> Elementwise
     let dest = group_of(result);
     let mask = v0_read(v0, a.masked);
     let sew = Control::sew(vtype);
-    let vxrm = fixed::vxrm_of(control.vxrm);
+    let vxrm = Vxrm::from(control.vxrm);
     Elementwise {
         dest,
         vs2,

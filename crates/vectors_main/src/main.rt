@@ -65,7 +65,7 @@ fn scalar_at(k: u64) -> u64 {
     if 32 <= k {
         return 0;
     }
-    std::num::wrapping_add_u64(width::mul64(k, 0x0123_4567_89ab_cdef), 0x55)
+    k.wrapping_mul(0x0123_4567_89ab_cdef).wrapping_add(0x55)
 }
 
 fn fill_bytes(what: Bytes, bytes: &mut [u8]) {

@@ -1,13 +1,16 @@
 -- Signed machine integers: what a local of type i64 holds, and `signed` and `wrap` over the width.
-use Rattle.std.proofs.Common.{◌≡◌, ℕ, zero, suc, ◌+◌, ◌-◌, ◌*◌, ◌/◌, ◌%◌, ◌^◌, ◌<◌, ◌≤◌, Bool, true, false, cond, ℤ, pos, negsuc, ◌-ℤ◌, ◌*ℤ◌, neg_ℤ, nat_abs, sym, refl, ap, ◌∙◌, ap₂, subst₂, le_trans, le_of_eq, lt_of_lt_of_le, lt_of_le_of_lt, mod-lt, mod-eq_of_lt, zero-lt-suc, mul-le-mul, lt_of_not-le, zero-add, div-le_self, div-one, arith, lit<, pow_pos, pow_mono, to_z-of_z, w64, SFits, to_z, of_z, ltb-true, le-ltb, lt-ltb}
+use Rattle.std.proofs.Common.{◌≡◌, ℕ, zero, suc, ◌+◌, ◌-◌, ◌*◌, ◌/◌, ◌%◌, ◌^◌, ◌<◌, ◌≤◌, Bool, cond, ℤ, pos, negsuc, ◌-ℤ◌, ◌*ℤ◌, neg_ℤ, nat_abs, sym, refl, ap, ◌∙◌, ap₂, subst₂, le_trans, le_of_eq, lt_of_lt_of_le, lt_of_le_of_lt, mod-lt, mod-eq_of_lt, zero-lt-suc, mul-le-mul, lt_of_not-le, zero-add, div-le_self, div-add-mod', div-one, arith, lit<, pow_pos, pow_mono, to_z-of_z, w64, SFits, to_z, of_z, le-ltb, lt-ltb}
 use mathlib.Core.Path.{subst⁻¹}
+use native.Mathlib.Nat.{mul-le-mul_right}
+use Rattle.std.proofs.lemmas.Nat.{shl-shr}
+use Rattle.width.proofs.LowBits.{pow-64}
 use native.Mathlib.Nat.{mod-add-mod, two-pow-succ, zero-mod, div-lt_self, mod-one}
 use native.Mathlib.Decide.{dec_le}
 use lib.IntN.{sub_ℕ}
 use lib.Signed.{nat_abs-le, lt_z, mag, quot_z, rem_z, shr_z, mag_shr}
 use mir.Facts.{to_z_pos}
 use Rattle.width.specs.Width.{Width, signed, wrap}
-use Rattle.width.proofs.Diff.{diff-is-neg, diff-is-pos, diff-eq, pos-diff, neg-diff, wrap-is, wrap-cong, mod-is, wrap-diff}
+use Rattle.width.proofs.Diff.{negsuc-diff, shr-diff, diff-is-neg, diff-is-pos, diff-eq, pos-diff, neg-diff, wrap-is, wrap-cong, mod-is, wrap-diff}
 
 -- `signed` by its two cases
 pub signed_low : (w x : ℕ) → 2 * x < 2 ^ w → signed w x ≡ pos x
@@ -34,37 +37,6 @@ wrap-signed w x h = go (dec_le (2 ^ w) (2 * x))
 pub comp-pos : (k : ℕ) → negsuc 0 -ℤ pos k ≡ negsuc k
 comp-pos zero = refl
 comp-pos (suc k) = ap (λ (n : ℕ). negsuc (suc n)) (zero-add k)
-
-pub comp-neg : (n : ℕ) → negsuc 0 -ℤ negsuc n ≡ pos n
-comp-neg n = diff-is-pos (suc n) 1 n (omega arith)
-
--- what an i64 below zero is, with what `-1 - z` then is
-pub record Below (z : ℤ) : Type 0 where
-  pub n : ℕ
-  pub is : z ≡ negsuc n
-  pub bound : n < 2 ^ 63
-  pub comp : negsuc 0 -ℤ to_z w64 (of_z w64 z) ≡ pos n
-  pub back : to_z w64 (of_z w64 (negsuc 0 -ℤ to_z w64 (of_z w64 z))) ≡ pos n
-
-pub below-zero : (z : ℤ) → SFits w64 z → lt_z (to_z w64 (of_z w64 z)) (pos 0) ≡ true → Below z
-below-zero (pos n) h t = absurd (no (ltb-true n 0 (rw (to_z-of_z h) at t)))
-  where
-    no : n < 0 → ⊥
-    no l = omega arith
-below-zero (negsuc n) h t =
-    let e : negsuc 0 -ℤ to_z w64 (of_z w64 (negsuc n)) ≡ pos n = ap (λ (z : ℤ). negsuc 0 -ℤ z) (to_z-of_z h) ∙ comp-neg n in
-    record { n = n; is = refl; bound = h.sfits; comp = e; back = ap (λ (z : ℤ). to_z w64 (of_z w64 z)) e ∙ to_z_pos w64 h.sfits }
-
--- and one that is not
-pub record AtLeast (z : ℤ) : Type 0 where
-  pub n : ℕ
-  pub is : z ≡ pos n
-  pub bound : n < 2 ^ 63
-  pub back : to_z w64 (of_z w64 z) ≡ pos n
-
-pub at-least-zero : (z : ℤ) → SFits w64 z → lt_z (to_z w64 (of_z w64 z)) (pos 0) ≡ false → AtLeast z
-at-least-zero (pos n) h t = record { n = n; is = refl; bound = h.sfits; back = to_z-of_z h }
-at-least-zero (negsuc n) h t = absurd (mathlib.Core.Bool.true≢false (rw (to_z-of_z h) at t))
 
 -- a power by its half
 pub half : {w : ℕ} → 1 ≤ w → 2 ^ w ≡ 2 * 2 ^ (w - 1)
@@ -244,3 +216,55 @@ bias w x h l = go (dec_le (2 ^ w) (2 * x))
 -- what is taken off as half the range may as well be added
 pub wrap-half : (w n h : ℕ) → 2 ^ w ≡ h + h → wrap w (sub_ℕ n h) ≡ (n % 2 ^ w + h) % 2 ^ w
 wrap-half w n h e = ap (wrap w) (diff-eq n h (n + h) (1 * 2 ^ w) (omega arith)) ∙ wrap-diff w (n + h) 1 ∙ sym (mod-add-mod n (2 ^ w) h)
+
+-- ---- what the code of to_signed and from_signed does
+
+-- the low bits of an i64's bits
+low-of : (w : ℕ) (z : ℤ) → w ≤ 64 → SFits w64 z → of_z w64 z % 2 ^ w ≡ wrap w z
+unfolding wrap
+low-of w (pos n) h f = refl
+low-of w (negsuc n) h f =
+    let y : ℕ = 2 ^ 64 - suc n in
+    let l : suc n ≤ 2 ^ 64 = omega (arith, f.sfits) in
+    let p : 2 ^ 64 ≡ 2 ^ (64 - w) * 2 ^ w = pow-64 h in
+    let s : y / 2 ^ w * 2 ^ w + y % 2 ^ w ≡ y = div-add-mod' y (2 ^ w) in
+    sym (ap (wrap w) (negsuc-diff n) ∙ wrap-is w 0 (suc n) (y % 2 ^ w) (2 ^ (64 - w)) (y / 2 ^ w) (mod-lt y (pow_pos w)) (omega arith))
+
+pub low-is : (w n r : ℕ) (z : ℤ) → r ≡ n % 2 ^ w → n ≡ of_z w64 (to_z w64 (of_z w64 z)) → Width w → SFits w64 z → r ≡ wrap w z
+low-is w n r z e g h f = e ∙ ap (λ (x : ℕ). x % 2 ^ w) (g ∙ ap (of_z w64) (to_z-of_z f)) ∙ low-of w z h.most f
+
+-- a difference of multiples of 2 ^ k, shifted down
+down : (k x m : ℕ) (s : ℤ) → s ≡ sub_ℕ (x * 2 ^ k) (m * 2 ^ k) → SFits w64 s
+    → to_z w64 (of_z w64 (shr_z (to_z w64 (of_z w64 s)) (2 ^ k))) ≡ sub_ℕ x m
+down k x m s e f =
+    shr-back s (2 ^ k) f ∙ ap (λ (z : ℤ). shr_z z (2 ^ k)) e ∙ shr-diff (2 ^ k) (x * 2 ^ k) m (pow_pos k)
+    ∙ ap (λ (y : ℕ). sub_ℕ y m) (shl-shr x k)
+
+-- w bits shifted to the top of an i64 and down again
+pub shifted : (w x : ℕ) (s : ℤ) → Width w → x < 2 ^ w → s ≡ to_z w64 (x * 2 ^ (64 - w) % 2 ^ 64)
+    → to_z w64 (of_z w64 (shr_z (to_z w64 (of_z w64 s)) (2 ^ (64 - w)))) ≡ signed w x
+shifted w x s h l e = go (dec_le (2 ^ w) (2 * x))
+  where
+    go : Dec (2 ^ w ≤ 2 * x) → to_z w64 (of_z w64 (shr_z (to_z w64 (of_z w64 s)) (2 ^ (64 - w)))) ≡ signed w x
+    go (yes f) =
+        let u : ℕ = 2 ^ (64 - w) in
+        let p : 2 ^ 64 ≡ u * 2 ^ w = pow-64 h.most in
+        let m : suc x * u ≤ 2 ^ w * u = mul-le-mul_right u l in
+        let g : 2 ^ w * u ≤ 2 * x * u = mul-le-mul_right u f in
+        let b : 0 < u = pow_pos (64 - w) in
+        let k : ℕ = 2 ^ 64 - suc (x * u) in
+        let t : k < 2 ^ 63 = omega arith in
+        let i : s ≡ negsuc k =
+        e ∙ ap (to_z w64) (mod-eq_of_lt (omega arith) ∙ omega arith) ∙ to_z-of_z {w = w64} {z = negsuc k} (record { sfits = t }) in
+        down (64 - w) x (2 ^ w) s (i ∙ sym (diff-is-neg (x * u) (2 ^ w * u) k (omega arith))) (rw i (record { sfits = t }))
+        ∙ sym (signed_high w x f)
+    go (no f) =
+        let u : ℕ = 2 ^ (64 - w) in
+        let p : 2 ^ 64 ≡ u * 2 ^ w = pow-64 h.most in
+        let g : 2 * x < 2 ^ w = lt_of_not-le f in
+        let m : suc (2 * x) * u ≤ 2 ^ w * u = mul-le-mul_right u g in
+        let b : 0 < u = pow_pos (64 - w) in
+        let t : x * u < 2 ^ 63 = omega arith in
+        let i : s ≡ pos (x * u) = e ∙ ap (to_z w64) (mod-eq_of_lt (omega arith)) ∙ to_z_pos w64 t in
+        down (64 - w) x 0 s (i ∙ pos-diff (x * u) ∙ ap (sub_ℕ (x * u)) (omega arith)) (rw i (record { sfits = t }))
+        ∙ sym (signed_low w x g ∙ pos-diff x)

@@ -2,14 +2,7 @@
 
 ghost use Rattle.std.specs.Prelude.{◌≡◌, ◌+◌, ◌*◌, ◌%◌, ◌^◌, ◌<◌};
 ghost use Rattle.std.proofs.Math.IntN.{sub_ℕ};
-ghost use Rattle.width.specs.Width.{Width, signed, wrap, flag};
-
-// A mask bit.
-pub fn flagged(test: bool) -> u64
-    ensures { result ≡ flag test }
-{
-    if test { 1 } else { 0 }
-}
+ghost use Rattle.width.specs.Width.{Width, signed, wrap};
 
 // The number of sew ones.
 pub fn ones(sew: u64) -> u64
@@ -32,7 +25,7 @@ pub fn add(sew: u64, a: u64, b: u64) -> u64
     requires { Width sew }
     ensures { result ≡ (a + b) % 2 ^ sew }
 {
-    low(sew, std::num::wrapping_add_u64(a, b))
+    low(sew, a.wrapping_add(b))
 }
 
 // a - b, wrapped at sew bits.
@@ -40,20 +33,7 @@ pub fn sub(sew: u64, a: u64, b: u64) -> u64
     requires { Width sew }
     ensures { result ≡ wrap sew (sub_ℕ a b) }
 {
-    low(sew, std::num::wrapping_sub_u64(a, b))
-}
-
-// The low 64 bits of a product: the high halves' product is a multiple of 2^64, and the two
-// mixed products count by their low 32 bits alone.
-pub fn mul64(a: u64, b: u64) -> u64
-    ensures { result ≡ a * b % 2 ^ 64 }
-{
-    let a1 = a / 0x1_0000_0000;
-    let a0 = a % 0x1_0000_0000;
-    let b1 = b / 0x1_0000_0000;
-    let b0 = b % 0x1_0000_0000;
-    let mixed = std::num::wrapping_add_u64(a1 * b0, a0 * b1);
-    std::num::wrapping_add_u64(a0 * b0, mixed << 32)
+    low(sew, a.wrapping_sub(b))
 }
 
 // The product, wrapped at sew bits.
@@ -61,20 +41,16 @@ pub fn mul(sew: u64, a: u64, b: u64) -> u64
     requires { Width sew }
     ensures { result ≡ a * b % 2 ^ sew }
 {
-    low(sew, mul64(a, b))
+    low(sew, a.wrapping_mul(b))
 }
 
-// The signed value of an element.
+// The signed value of an element: its top bit becomes the i64's, and is copied down again.
 pub fn to_signed(sew: u64, x: u64) -> i64
     requires { Width sew × (x < 2 ^ sew) }
     ensures { result ≡ signed sew x }
 {
-    let m = ones(sew);
-    if x <= m / 2 {
-        x as i64
-    } else {
-        -1 - ((m - x) as i64)
-    }
+    let above = 64 - sew;
+    (x << above).cast_signed() >> above
 }
 
 // An integer's low sew bits.
@@ -82,10 +58,5 @@ pub fn from_signed(sew: u64, z: i64) -> u64
     requires { Width sew }
     ensures { result ≡ wrap sew z }
 {
-    let m = ones(sew);
-    if z < 0 {
-        m - (((-1 - z) as u64) & m)
-    } else {
-        (z as u64) & m
-    }
+    low(sew, z.cast_unsigned())
 }

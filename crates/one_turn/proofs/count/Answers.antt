@@ -9,7 +9,7 @@ pub set_at-requires : goal.set_at-requires
 set_at-requires c = (search v0-inside, search vs2-inside)
 
 pub overflow_add-n : goal.overflow_add-n
-overflow_add-n c = omega (arith, flag-le c.set_at.result _ c.flagged-n.ensures)
+overflow_add-n c = omega (arith, flag-le c.set_at.result _ c.from-n.ensures)
 
 pub overflow_add-i : goal.overflow_add-i
 overflow_add-i c = omega arith
@@ -18,7 +18,7 @@ pub loop-i-smaller : goal.loop-i-smaller
 loop-i-smaller c = omega arith
 
 pub loop-i-preserved : goal.loop-i-preserved
-loop-i-preserved c = (omega arith, (omega (arith, flag-le c.set_at.result _ c.flagged-n.ensures), search population-more))
+loop-i-preserved c = (omega arith, (omega (arith, flag-le c.set_at.result _ c.from-n.ensures), search population-more))
 
 pub returns : goal.returns
 returns c = search population-all
