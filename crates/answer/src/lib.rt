@@ -6,7 +6,7 @@ ghost use Rattle.std.specs.Prelude.{◌≡◌};
 ghost use Rattle.answer.specs.Answer.{number_of};
 
 // What a call comes to; `number` gives the paper's number of each.
-#[derive(Clone, Copy)]
+#[derive(Clone, Copy, PartialEq, Eq)]
 pub enum Answer {
     Finished,
     Paused,
@@ -21,13 +21,6 @@ pub enum Answer {
     BadRights,
     BadControl,
     NoGroup,
-}
-
-// What refusals 32 to 36 come to: nothing against a state, or the answer that refuses it.
-#[derive(Clone, Copy)]
-pub enum Verdict {
-    Accepted,
-    Refused(Answer),
 }
 
 // The answer's number in document 01.
