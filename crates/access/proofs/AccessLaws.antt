@@ -23,6 +23,11 @@ last_fits a n t e f =
           (λ h. omega arith) n t e;
     }
 
+-- what `?` hands on is the error itself
+pub handed-on : {A E : Type 0} (r : Result A E) (e : E) → IsErrAnd r (λ x. x ≡ e) → r ≡ Err e
+handed-on (Ok y) e h = absurd h
+handed-on (Err x) e h = rw h
+
 -- ---- what is granted is aligned, inside memory and on a page that has the right
 
 never : {A : Type 0} (f : Fault) → ◌≡◌ {A = Result ⊤ Fault} (Err f) (Ok tt) → A
@@ -130,10 +135,9 @@ module _ (rights : List ℕ) (memory : ℕ) (store : Bool) (a n nf : ℕ) where
         sub-suc : suc nf - k ≡ suc (nf - k)
         sub-suc = omega arith
 
-    pub testing-faulted : (f : Fault) (r : Result ⊤ Fault) → v ≡ Err f → IsErrAnd r (λ e. e ≡ f)
+    pub testing-faulted : (f : Fault) (r : Result ⊤ Fault) → v ≡ Err f → r ≡ Err f
         → r ≡ fields_access rights memory store a n 0 (suc nf)
-    testing-faulted f (Ok x) q h = absurd h
-    testing-faulted f (Err e) q h = rw h (sym (split ∙ rw q))
+    testing-faulted f r q e = e ∙ sym (split ∙ rw q)
 
     pub testing-more : (x : ⊤) → v ≡ Ok x → Testing ((field + n) % 2 ^ 64) (k + 1)
     testing-more x q = record {
