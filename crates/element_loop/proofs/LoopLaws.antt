@@ -1,4 +1,5 @@
 -- From the loop over the elements to the definition of a turn: what the invariant says, and how each way out meets the contract.
+use Rattle.std.specs.Prelude.{Result, Ok, Err, ⊤}
 use mathlib.Core.Path.{◌≡◌, refl, sym, ap, ◌∙◌, subst}
 use mathlib.Core.Bool.{Bool, true, false, not, ◌||◌, cond}
 use mathlib.Core.List.{List}
@@ -21,8 +22,6 @@ use Rattle.layout.specs.Layout.{byte_size}
 use Rattle.layout.proofs.BytesLaws.{Bytes}
 use Rattle.access.specs.declared.FaultPlace.{FaultPlace}
 use Rattle.access.specs.declared.Fault.{Fault}
-use Rattle.access.specs.declared.AccessTest.{AccessTest}
-use Rattle.access.specs.declared.AccessTest.TheVariants.{Granted, Faulted}
 use Rattle.access.specs.Access.{nowhere}
 use Rattle.plan.specs.declared.Action.TheVariants as A
 use Rattle.plan.specs.declared.Compute.{Compute}
@@ -49,12 +48,12 @@ use Rattle.element_loop.proofs.Readiness.{Prepared, prepared}
 
 -- ---- checks and effects
 
-pub check-fault : (f : Effect Fault (List Write)) (x : Fault) → Faulted x ≡ check_of f → f ≡ fault x
+pub check-fault : (f : Effect Fault (List Write)) (x : Fault) → Err x ≡ check_of f → f ≡ fault x
 check-fault inactive x h = cc
 check-fault (fault y) x h = let p : x ≡ y = cc in rw p
 check-fault (write l) x h = cc
 
-pub check-granted : (f : Effect Fault (List Write)) → Granted ≡ check_of f → faults f ≡ false
+pub check-granted : (f : Effect Fault (List Write)) → Ok tt ≡ check_of f → faults f ≡ false
 check-granted inactive h = refl
 check-granted (fault y) h = cc
 check-granted (write l) h = refl
@@ -210,8 +209,9 @@ module _ (b : Board) (e : Elementwise) (registers₀ scalars memory₀ rights : 
           subst (ActionFits b.vlenb registers e (c.vstart + k)) q
           ((next-prepared (c.vstart + k) (omega arith)).action registers g.bytes)
 
-      pub stop-fits : Fits w64 c.vstart → Fits w64 (c.vstart + k)
-      stop-fits f = record { fits = omega (arith, the_within, end_fits.fits, f.fits) }
+      pub stop-fits : (remaining most : ℕ) → remaining ≡ e.end - c.vstart → most ≡ min allowance remaining → Fits w64 c.vstart
+          → Fits w64 (c.vstart + most)
+      stop-fits remaining most u v f = record { fits = omega (arith, end_fits.fits, f.fits) }
 
       -- one element after another, in place
       abbrev here : Core
@@ -220,11 +220,11 @@ module _ (b : Board) (e : Elementwise) (registers₀ scalars memory₀ rights : 
       abbrev the-effect : Effect Fault (List Write)
       the-effect = effect_of b rights here e (c.vstart + k)
 
-      pub trap-left : (remaining most : ℕ) (check : AccessTest) (x : Fault) (registers' memory' : List ℕ) (r : Turned)
+      pub trap-left : (remaining most : ℕ) (check : Result ⊤ Fault) (x : Fault) (registers' memory' : List ℕ) (r : Turned)
           → r ≡ record { answer = x.answer; passed = k; place = x.place; control = leaving c (c.vstart + k) vxsat }
           → remaining ≡ e.end - c.vstart → most ≡ min allowance remaining → k < most
           → ((y : List ℕ) (d : Control) → Did b.vlenb (effect_of b rights (core_at registers memory y d) e (c.vstart + k))
-          (core_at registers memory y d) check (core_at registers' memory' y d)) → check ≡ Faulted x
+          (core_at registers memory y d) check (core_at registers' memory' y d)) → check ≡ Err x
           → left r registers' scalars memory' rights ≡ plan_turn b (P.Elements e) allowance the-state
       trap-left remaining most check x registers' memory' r z u v h did q =
           let d : Did b.vlenb the-effect here check (core_now scalars c registers' memory' vxsat) = did scalars (besides c 0 vxsat) in
@@ -237,10 +237,13 @@ module _ (b : Board) (e : Elementwise) (registers₀ scalars memory₀ rights : 
 
       -- a pause where elements remain, a finish where none does
       pub stop-left : (remaining most : ℕ) (r : Turned)
-          → r ≡ stopped remaining k c vxsat → remaining ≡ e.end - c.vstart → most ≡ min allowance remaining → most ≤ k
+          → r ≡ stopped remaining most c vxsat → remaining ≡ e.end - c.vstart → most ≡ min allowance remaining → most ≤ k
           → left r registers scalars memory rights ≡ plan_turn b (P.Elements e) allowance the-state
-      stop-left remaining most r z u v h = by-rest (dec_lt k remaining)
+      stop-left remaining most r q u v h = by-rest (dec_lt k remaining)
         where
+          z : r ≡ stopped remaining k c vxsat
+          z = let o : most ≡ k = omega (arith, the_within) in rw o at q
+
           by-rest : Dec (k < remaining) → left r registers scalars memory rights ≡ plan_turn b (P.Elements e) allowance the-state
           by-rest (yes m) =
               ended _ registers memory _
@@ -254,7 +257,7 @@ module _ (b : Board) (e : Elementwise) (registers₀ scalars memory₀ rights : 
       -- an element that is passed, from here to what it leaves
       going_more : (remaining most : ℕ) (registers' memory' : List ℕ) (vxsat' : ℕ)
           → remaining ≡ e.end - c.vstart → most ≡ min allowance remaining → k < most
-          → Did b.vlenb the-effect here Granted (core_now scalars c registers' memory' vxsat')
+          → Did b.vlenb the-effect here (Ok tt) (core_now scalars c registers' memory' vxsat')
           → Bytes registers' → length registers' ≡ length registers → length memory' ≡ length memory
           → Going (k + 1) registers' memory' vxsat'
       going_more remaining most registers' memory' vxsat' u v h d y m n = record {
@@ -269,7 +272,7 @@ module _ (b : Board) (e : Elementwise) (registers₀ scalars memory₀ rights : 
       pub computed_more : (remaining most : ℕ) (saturates : Bool) (registers' : List ℕ) (vxsat' : ℕ)
           → remaining ≡ e.end - c.vstart → most ≡ min allowance remaining → k < most
           → ((r m y : List ℕ) (d : Control) → Did b.vlenb (effect_of b r (core_at registers m y d) e (c.vstart + k))
-          (core_at registers m y d) Granted (core_at registers' m y (saturating saturates d)))
+          (core_at registers m y d) (Ok tt) (core_at registers' m y (saturating saturates d)))
           → vxsat' ≡ cond saturates 1 vxsat → Bytes registers' → length registers' ≡ length registers
           → Going (k + 1) registers' memory vxsat'
       computed_more remaining most saturates registers' vxsat' u v h did q y m =
@@ -280,16 +283,16 @@ module _ (b : Board) (e : Elementwise) (registers₀ scalars memory₀ rights : 
       pub permuted-more : (remaining most : ℕ) (registers' : List ℕ)
           → remaining ≡ e.end - c.vstart → most ≡ min allowance remaining → k < most
           → ((r m y : List ℕ) (d : Control) → Did b.vlenb (effect_of b r (core_at registers m y d) e (c.vstart + k))
-          (core_at registers m y d) Granted (core_at registers' m y d))
+          (core_at registers m y d) (Ok tt) (core_at registers' m y d))
           → Bytes registers' → length registers' ≡ length registers
           → Going (k + 1) registers' memory vxsat
       permuted-more remaining most registers' u v h did y m =
           going_more remaining most registers' memory vxsat u v h (did rights memory scalars (besides c 0 vxsat)) y m refl
 
-      pub transferred-more : (remaining most : ℕ) (check : AccessTest) (registers' memory' : List ℕ)
+      pub transferred-more : (remaining most : ℕ) (check : Result ⊤ Fault) (registers' memory' : List ℕ)
           → remaining ≡ e.end - c.vstart → most ≡ min allowance remaining → k < most
           → ((y : List ℕ) (d : Control) → Did b.vlenb (effect_of b rights (core_at registers memory y d) e (c.vstart + k))
-          (core_at registers memory y d) check (core_at registers' memory' y d)) → check ≡ Granted
+          (core_at registers memory y d) check (core_at registers' memory' y d)) → check ≡ Ok tt
           → Bytes registers' → length registers' ≡ length registers → length memory' ≡ length memory
           → Going (k + 1) registers' memory' vxsat
       transferred-more remaining most check registers' memory' u v h did q y m n =

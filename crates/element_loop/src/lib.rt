@@ -14,7 +14,7 @@ ghost use Rattle.machine.specs.Call.{given, left};
 ghost use Rattle.machine.specs.Machine.{plan_turn};
 ghost use Rattle.element_loop.specs.Runnable.{Runnable};
 
-use access::{AccessTest, Fault, FaultPlace};
+use access::{Fault, FaultPlace};
 use answer::Answer;
 use control::{Board, Control};
 use machine::Turned;
@@ -99,19 +99,17 @@ fn computed(
         (given registers.old scalars.now memory.now rights.now control) }
 {
     let vstart = control.vstart;
-    let remaining = control::less(e.end, vstart);
-    let count = control::smaller(allowance, remaining);
+    let remaining = e.end.saturating_sub(vstart);
+    let count = allowance.min(remaining);
     let mut vxsat = control.vxsat;
-    let mut k: u64 = 0;
-    while k < count {
+    for k in 0..count {
         let i = (vstart + k) as usize;
         vxsat = saturated(
             vxsat,
             execute::compute_element(registers, board, e, operation, i),
         );
-        k += 1;
     }
-    stopped(remaining, k, control, vxsat)
+    stopped(remaining, count, control, vxsat)
 }
 
 // The elements of a legal permutation: likewise.
@@ -133,16 +131,14 @@ fn permuted(
         (given registers.old scalars.now memory.now rights.now control) }
 {
     let vstart = control.vstart;
-    let remaining = control::less(e.end, vstart);
-    let stretch = control::smaller(allowance, remaining);
+    let remaining = e.end.saturating_sub(vstart);
+    let stretch = allowance.min(remaining);
     let vxsat = control.vxsat;
-    let mut k: u64 = 0;
-    while k < stretch {
+    for k in 0..stretch {
         let i = (vstart + k) as usize;
         permutation::element(registers, board, e, p, i);
-        k += 1;
     }
-    stopped(remaining, k, control, vxsat)
+    stopped(remaining, stretch, control, vxsat)
 }
 
 // The elements of a legal load or store: likewise, or those before the first fault.
@@ -164,18 +160,16 @@ fn transferred(
         (given registers.old scalars.now memory.old rights.now control) }
 {
     let vstart = control.vstart;
-    let remaining = control::less(e.end, vstart);
-    let most = control::smaller(allowance, remaining);
+    let remaining = e.end.saturating_sub(vstart);
+    let most = allowance.min(remaining);
     let vxsat = control.vxsat;
-    let mut k: u64 = 0;
-    while k < most {
+    for k in 0..most {
         let i = (vstart + k) as usize;
-        match execute::transfer_element(registers, memory, rights, board, e, t, i) {
-            AccessTest::Faulted(fault) => return trapped(fault, k, control, vstart + k, vxsat),
-            AccessTest::Granted => k += 1,
+        if let Err(fault) = execute::transfer_element(registers, memory, rights, board, e, t, i) {
+            return trapped(fault, k, control, vstart + k, vxsat);
         }
     }
-    stopped(remaining, k, control, vxsat)
+    stopped(remaining, most, control, vxsat)
 }
 
 // The elements of a legal plan.

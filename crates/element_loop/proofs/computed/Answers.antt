@@ -13,17 +13,17 @@ overflow_add-i c = search (next-index, end_fits)
 pub compute_element-requires : goal.compute_element-requires
 compute_element-requires c = (
   next-ready _ _ _ _ _ _ _ _ c.requires.0 _ _ _ _ c.loop-k.invariant _ _ _
-      c.less-remaining.ensures c.smaller-count.ensures c.loop-k-test.true,
+      c.saturating_sub-remaining.ensures c.min-count.ensures c.loop-k-test.true,
   (
     next-operands _ _ _ _ _ _ _ _ c.requires.0 _ _ _ _ c.loop-k.invariant _ _ _ _
-        c.less-remaining.ensures c.smaller-count.ensures c.loop-k-test.true c.requires.1,
+        c.saturating_sub-remaining.ensures c.min-count.ensures c.loop-k-test.true c.requires.1,
     c.requires.1,
   ),
 )
 
 pub loop-k-preserved : goal.loop-k-preserved
 loop-k-preserved c = computed_more _ _ _ _ _ _ _ _ c.requires.0 _ _ _ _ c.loop-k.invariant _ _ c.compute_element.result _ _
-    c.less-remaining.ensures c.smaller-count.ensures c.loop-k-test.true
+    c.saturating_sub-remaining.ensures c.min-count.ensures c.loop-k-test.true
     c.compute_element.ensures c.saturated-vxsat.ensures (search slice-bytes) (search rules)
 
 pub stopped-requires : goal.stopped-requires
@@ -31,4 +31,4 @@ stopped-requires c = search stop-fits
 
 pub returns : goal.returns
 returns c = stop-left _ _ _ _ _ _ _ _ c.requires.0 _ _ _ _ c.loop-k.invariant _ _ _
-    c.stopped.ensures c.less-remaining.ensures c.smaller-count.ensures c.loop-k-test.false
+    c.stopped.ensures c.saturating_sub-remaining.ensures c.min-count.ensures c.loop-k-test.false

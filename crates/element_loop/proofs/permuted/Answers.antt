@@ -13,17 +13,17 @@ overflow_add-i c = search (next-index, end_fits)
 pub element-requires : goal.element-requires
 element-requires c = (
   next-ready _ _ _ _ _ _ _ _ c.requires.0 _ _ _ _ c.loop-k.invariant _ _ _
-      c.less-remaining.ensures c.smaller-stretch.ensures c.loop-k-test.true,
+      c.saturating_sub-remaining.ensures c.min-stretch.ensures c.loop-k-test.true,
   (
     next-permutable _ _ _ _ _ _ _ _ c.requires.0 _ _ _ _ c.loop-k.invariant _ _ _ _
-        c.less-remaining.ensures c.smaller-stretch.ensures c.loop-k-test.true c.requires.1,
+        c.saturating_sub-remaining.ensures c.min-stretch.ensures c.loop-k-test.true c.requires.1,
     c.requires.1,
   ),
 )
 
 pub loop-k-preserved : goal.loop-k-preserved
 loop-k-preserved c = permuted-more _ _ _ _ _ _ _ _ c.requires.0 _ _ _ _ c.loop-k.invariant _ _ _
-    c.less-remaining.ensures c.smaller-stretch.ensures c.loop-k-test.true
+    c.saturating_sub-remaining.ensures c.min-stretch.ensures c.loop-k-test.true
     c.element.ensures (search slice-bytes) (search rules)
 
 pub stopped-requires : goal.stopped-requires
@@ -31,4 +31,4 @@ stopped-requires c = search stop-fits
 
 pub returns : goal.returns
 returns c = stop-left _ _ _ _ _ _ _ _ c.requires.0 _ _ _ _ c.loop-k.invariant _ _ _
-    c.stopped.ensures c.less-remaining.ensures c.smaller-stretch.ensures c.loop-k-test.false
+    c.stopped.ensures c.saturating_sub-remaining.ensures c.min-stretch.ensures c.loop-k-test.false

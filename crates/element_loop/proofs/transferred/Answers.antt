@@ -13,14 +13,14 @@ overflow_add-i c = search (next-index, end_fits)
 pub transfer_element-requires : goal.transfer_element-requires
 transfer_element-requires c = (
   next-ready _ _ _ _ _ _ _ _ c.requires.0 _ _ _ _ c.loop-k.invariant _ _ _
-      c.less-remaining.ensures c.smaller-most.ensures c.loop-k-test.true,
+      c.saturating_sub-remaining.ensures c.min-most.ensures c.loop-k-test.true,
   (
     search rights-length,
     (
       search memory-bound,
       (
         next-bytes _ _ _ _ _ _ _ _ c.requires.0 _ _ _ _ c.loop-k.invariant _ _ _ _
-            c.less-remaining.ensures c.smaller-most.ensures c.loop-k-test.true c.requires.1,
+            c.saturating_sub-remaining.ensures c.min-most.ensures c.loop-k-test.true c.requires.1,
         c.requires.1,
       ),
     ),
@@ -30,20 +30,20 @@ transfer_element-requires c = (
 pub overflow_add-vstart : goal.overflow_add-vstart
 overflow_add-vstart c = search (next-index, end_fits)
 
-pub returns-in-Faulted : goal.returns-in-Faulted
-returns-in-Faulted c = trap-left _ _ _ _ _ _ _ _ c.requires.0 _ _ _ _ c.loop-k.invariant _ _ _ _ _ _ _
-    c.trapped.ensures c.less-remaining.ensures c.smaller-most.ensures c.loop-k-test.true
+pub returns-in-Err : goal.returns-in-Err
+returns-in-Err c = trap-left _ _ _ _ _ _ _ _ c.requires.0 _ _ _ _ c.loop-k.invariant _ _ _ _ _ _ _
+    c.trapped.ensures c.saturating_sub-remaining.ensures c.min-most.ensures c.loop-k-test.true
     c.transfer_element.ensures
-    c.in-Faulted.is
+    c.in-Err.is
 
 pub loop-k-preserved : goal.loop-k-preserved
 loop-k-preserved c = transferred-more _ _ _ _ _ _ _ _ c.requires.0 _ _ _ _ c.loop-k.invariant _ _ _ _ _
-    c.less-remaining.ensures c.smaller-most.ensures c.loop-k-test.true
-    c.transfer_element.ensures (search rules) (search slice-bytes) (search rules) (search rules)
+    c.saturating_sub-remaining.ensures c.min-most.ensures c.loop-k-test.true
+    c.transfer_element.ensures c.in_default.is (search slice-bytes) (search rules) (search rules)
 
 pub stopped-requires : goal.stopped-requires
 stopped-requires c = search stop-fits
 
 pub returns : goal.returns
 returns c = stop-left _ _ _ _ _ _ _ _ c.requires.0 _ _ _ _ c.loop-k.invariant _ _ _
-    c.stopped.ensures c.less-remaining.ensures c.smaller-most.ensures c.loop-k-test.false
+    c.stopped.ensures c.saturating_sub-remaining.ensures c.min-most.ensures c.loop-k-test.false
