@@ -11,7 +11,7 @@ ghost use Rattle.machine.specs.Call.{given, left};
 ghost use Rattle.machine.specs.Machine.{turn_of};
 
 use access::FaultPlace;
-use answer::{Answer, Verdict};
+use answer::Answer;
 use control::{Board, Control};
 use machine::Turned;
 use plan::Plan;
@@ -52,7 +52,7 @@ fn turn_on(
         ≡ turn_of board word allowance
         (given registers.old scalars.old memory.old rights.now control) }
 {
-    let verdict = refusal::refusal_on(
+    let refused = refusal::refusal_on(
         board,
         registers.len(),
         scalars.len(),
@@ -60,7 +60,7 @@ fn turn_on(
         rights,
         control,
     );
-    if let Verdict::Refused(answer) = verdict {
+    if let Err(answer) = refused {
         return answered(answer, control);
     }
     match legality::checked(board, scalars, control, decode::decode(word)) {
