@@ -3,8 +3,8 @@ use Rattle.access_check.proofs.WordLaws.{refused-word, other_word, illegal-word,
 use borrow.Author.Rules.{rules}
 use Rattle.access_check.proofs.check_on.Goals as goal
 
-pub returns-in-Refused : goal.returns-in-Refused
-returns-in-Refused c = search refused-word
+pub returns-in-Err : goal.returns-in-Err
+returns-in-Err c = search refused-word
 
 pub returns-then-not-is_unit_stride : goal.returns-then-not-is_unit_stride
 returns-then-not-is_unit_stride c = search other_word
@@ -13,7 +13,7 @@ pub checked-requires : goal.checked-requires
 checked-requires c = (search rules, (search accepted-scalars, (search accepted-sew, (search accepted-vl, search decoded-fits))))
 
 pub elements-requires : goal.elements-requires
-elements-requires c = elements-ready _ _ c.args.registers.now _ c.args.memory.now _ _ _ _ _ c.refusal_on-verdict.ensures
+elements-requires c = elements-ready _ _ c.args.registers.now _ c.args.memory.now _ _ _ _ _ c.refusal_on-refused.ensures
     c.in_default.is c.decode-instruction.ensures c.is_unit_stride.ensures c.if-not-is_unit_stride.false _
     c.checked.ensures _ c.requires c.in-Elements.is
 
@@ -24,6 +24,6 @@ pub returns-in-OneTurn : goal.returns-in-OneTurn
 returns-in-OneTurn c = search (no-one-turn, decoded-fits)
 
 pub returns-in-Elements : goal.returns-in-Elements
-returns-in-Elements c = elements-word _ _ _ _ _ _ _ _ _ _ c.refusal_on-verdict.ensures c.in_default.is
+returns-in-Elements c = elements-word _ _ _ _ _ _ _ _ _ _ c.refusal_on-refused.ensures c.in_default.is
     c.decode-instruction.ensures c.is_unit_stride.ensures c.if-not-is_unit_stride.false _ c.checked.ensures _
     c.requires c.in-Elements.is _ c.elements.ensures
