@@ -1,4 +1,5 @@
 -- The check of a word by the tests of the code: refused, another word, illegal, or the elements of a unit-stride access.
+use Rattle.std.specs.Prelude.{Result, Ok, Err, ⊤}
 use Prim.Native.Nat.{ℕ, ◌+◌, ◌-◌, ◌*◌, ◌/◌, ◌≤◌, ◌<◌}
 use mathlib.Core.Path.{◌≡◌, refl, sym, ap, subst, ◌∙◌}
 use mathlib.Core.Bool.{Bool, true, false, ◌||◌}
@@ -12,8 +13,6 @@ use lib.Dec.{T, eqb}
 use borrow.Author.Tests.{eqb-true}
 use Rattle.answer.specs.declared.Answer.{Answer}
 use Rattle.answer.specs.declared.Answer.TheVariants.{Illegal}
-use Rattle.answer.specs.declared.Verdict.{Verdict}
-use Rattle.answer.specs.declared.Verdict.TheVariants.{Accepted, Refused}
 use Rattle.control.specs.declared.Board.{Board}
 use Rattle.control.specs.declared.Control.{Control}
 use Rattle.control.specs.Board.{Valid}
@@ -225,12 +224,12 @@ module _ (b : Board) (word : ℕ) (file x memory rights : List ℕ) (c : Control
   abbrev before : State
   before = given file x memory rights c
 
-  pub refused-word : (v : Verdict) (a : Answer) (r : Checked) → v ≡ refusal_of b (length file) (length x) (length memory) rights c
-      → v ≡ Refused a → r ≡ nothing_tested a → r ≡ access_check_of b word before
+  pub refused-word : (v : Result ⊤ Answer) (a : Answer) (r : Checked) → v ≡ refusal_of b (length file) (length x) (length memory) rights c
+      → v ≡ Err a → r ≡ nothing_tested a → r ≡ access_check_of b word before
   refused-word v a r q h e = e ∙ refused-check b word before a (sym q ∙ h)
 
-  module _ (v : Verdict) (d : Instruction) (u : Bool)
-      (q : v ≡ refusal_of b (length file) (length x) (length memory) rights c) (h : v ≡ Accepted) (k : d ≡ decode_of word)
+  module _ (v : Result ⊤ Answer) (d : Instruction) (u : Bool)
+      (q : v ≡ refusal_of b (length file) (length x) (length memory) rights c) (h : v ≡ Ok tt) (k : d ≡ decode_of word)
       (i : u ≡ is_unit_stride d) where
     pub other_word : (r : Checked) → u ≡ false → r ≡ nothing_tested Illegal → r ≡ access_check_of b word before
     other_word r n e = e ∙ other-check b word before (sym q ∙ h) (ap is_unit_stride (sym k) ∙ sym i ∙ n)

@@ -11,7 +11,7 @@ ghost use Rattle.unit_stride.specs.Tested.{Packed, MaskInside, Tested};
 ghost use Rattle.access_check.specs.AccessCheck.{unit_stride_mode, is_unit_stride, nothing_tested, access_check_of};
 
 use access::Wanted;
-use answer::{Answer, Verdict};
+use answer::Answer;
 use control::{Board, Control};
 use decode::{Instruction, Mode};
 use plan::{Action, Elementwise, Plan};
@@ -87,7 +87,7 @@ fn elements(
             e.masked,
             t,
             vstart,
-            control::less(e.end, vstart),
+            e.end.saturating_sub(vstart),
         ),
     }
 }
@@ -105,7 +105,7 @@ pub fn check(
     ensures { result ≡ access_check_of board word
         (given registers.now scalars.now memory.now rights.now control) }
 {
-    let verdict = refusal::refusal(
+    let refused = refusal::refusal(
         board,
         registers.len(),
         scalars.len(),
@@ -113,7 +113,7 @@ pub fn check(
         rights,
         control,
     );
-    if let Verdict::Refused(answer) = verdict {
+    if let Err(answer) = refused {
         return nothing_tested(answer);
     }
     let instruction = decode::decode(word);

@@ -20,13 +20,6 @@ pub enum Answer {
     NoGroup,
 }
 
-// What refusals 32 to 36 come to: nothing against a state, or the answer that refuses it.
-#[derive(Clone, Copy)]
-pub enum Verdict {
-    Accepted,
-    Refused(Answer),
-}
-
 // The answer's number in document 01.
 impl From<Answer> for u64 {
     ghost use Rattle.std.specs.Prelude.{◌≡◌};

@@ -1,4 +1,5 @@
 -- Elements that lie one after the other in memory, moved as one copy: each of them is moved so, and none faults.
+use Rattle.std.specs.Prelude.{Ok}
 use Prim.Native.Nat.{ℕ, zero, suc, ◌+◌, ◌-◌, ◌*◌, ◌/◌, ◌%◌, ◌^◌, ◌≤◌, ◌<◌}
 use mathlib.Core.Path.{◌≡◌, refl, sym, ap, subst, ◌∙◌}
 use mathlib.Core.Bool.{Bool, true, false, not, ◌&&◌, ◌||◌, cond, and_assoc}
@@ -14,7 +15,6 @@ use borrow.Author.Tests.{eqb-true, eqb-false, not-true, not-false}
 use Rattle.laws.proofs.Apart.{both_left, both_right}
 use Rattle.answer.specs.declared.Answer.{Answer}
 use Rattle.answer.specs.declared.Answer.TheVariants.{Finished}
-use Rattle.access.specs.declared.AccessTest.TheVariants.{Granted}
 use Rattle.access.proofs.Reason.{reasons}
 use Rattle.layout.specs.Layout.{bytes_at, with_bytes, element_at, with_element}
 use Rattle.layout.proofs.BytesLaws.{Bytes}
@@ -23,7 +23,7 @@ use Rattle.control.specs.declared.Board.{Board}
 use Rattle.control.specs.declared.Control.{Control}
 use Rattle.group.specs.Group.{nfields}
 use Rattle.access.specs.Access.{access_of, fields_access}
-use Rattle.access.proofs.AccessLaws.{granted-facts, testing-none, testing-more, testing-done}
+use Rattle.access.proofs.AccessLaws.{granted-facts, testing-none, testing-done}
 use Rattle.plan.specs.declared.Action.TheVariants as A
 use Rattle.machine.specs.State.{Core}
 use Rattle.execute.specs.Step.{core_at, Did, Ran, none, more, Attempted, done}
@@ -174,7 +174,7 @@ module _ (file memory : List ℕ) (at a : ℕ) where
 
 module _ (b : Board) (rights file memory file' memory' : List ℕ) (e : Elementwise) (t : Transfer) (o : Ordered e t)
     (q : e.action ≡ A.Transfer t) (m : length memory ≤ 65536) (i a : ℕ) (p : a ≡ element_address t i 0)
-    (f : access_of rights (length memory) t.store a t.bytes ≡ Granted)
+    (f : access_of rights (length memory) t.store a t.bytes ≡ Ok tt)
     (r : file' ≡ cond t.store file (with_element b.vlenb file e.dest.reg e.dest.eew i (bytes_at memory a t.bytes)))
     (s : memory' ≡ cond t.store (with_bytes memory a t.bytes (element_at b.vlenb file e.dest.reg e.dest.eew i)) memory) where
   inside : a + t.bytes ≤ length memory
@@ -183,13 +183,12 @@ module _ (b : Board) (rights file memory file' memory' : List ℕ) (e : Elementw
   one_field : e.dest.nf < 1
   one_field = omega (arith, o.single)
 
-  field-granted : Granted ≡ fields_access rights (length memory) t.store a t.bytes 0 (nfields e.dest)
+  field-granted : Ok tt ≡ fields_access rights (length memory) t.store a t.bytes 0 (nfields e.dest)
   field-granted =
       let here = testing-none rights (length memory) t.store a t.bytes e.dest.nf a 0 (record { fits = omega (arith, inside) })
       refl refl in
-      testing-done rights (length memory) t.store a t.bytes e.dest.nf _ 1
-      (testing-more rights (length memory) t.store a t.bytes e.dest.nf a 0 here (omega arith) Granted (sym f) _ refl refl)
-      one_field
+      testing-done rights (length memory) t.store a t.bytes e.dest.nf a 0 here (omega arith) (Ok tt) (sym f) tt refl
+      (omega (arith, one_field))
 
   all_moved : (x : List ℕ) (c : Control) → core_at file' memory' x c
       ≡ put_all b.vlenb (each_field (field_write b.vlenb file memory t.store e.dest t.bytes i a) 0 (nfields e.dest))
@@ -204,14 +203,14 @@ module _ (b : Board) (rights file memory file' memory' : List ℕ) (e : Elementw
       one_field
 
   element-moved : (x : List ℕ) (c : Control)
-      → Did b.vlenb (effect_of b rights (core_at file memory x c) e i) (core_at file memory x c) Granted (core_at file' memory' x c)
+      → Did b.vlenb (effect_of b rights (core_at file memory x c) e i) (core_at file memory x c) (Ok tt) (core_at file' memory' x c)
   unfolding acting_of
   element-moved x c =
       let s₀ : Core = core_at file memory x c in
       let s₁ : Core = core_at file' memory' x c in
       acted b rights s₀ e i true (rw o.unmasked) refl q
-      (transfers-at b.vlenb rights s₀ s₁ t e.dest Granted a i 0 _ (sym (o.offset b.vlenb file i)) p
-      (moved b.vlenb rights file memory file' memory' t.store e.dest t.bytes i a Granted field-granted x c refl all_moved))
+      (transfers-at b.vlenb rights s₀ s₁ t e.dest (Ok tt) a i 0 _ (sym (o.offset b.vlenb file i)) p
+      (moved b.vlenb rights file memory file' memory' t.store e.dest t.bytes i a (Ok tt) field-granted x c refl all_moved))
 
 -- ---- all elements
 
@@ -271,7 +270,7 @@ module _ (b : Board) (rights : List ℕ) (size memory : ℕ) (e : Elementwise) (
     address j l =
         rw p (sym (onward rights memory t v n is-packed v j (omega (arith, g.few)) (rw (← p) (omega (arith, begins)))))
 
-    element-granted : (j : ℕ) → j < n → access_of rights memory t.store (a + j * t.bytes) t.bytes ≡ Granted
+    element-granted : (j : ℕ) → j < n → access_of rights memory t.store (a + j * t.bytes) t.bytes ≡ Ok tt
     element-granted j l = rw (address j l) (y.each u j l)
 
     pub memory-room : a + n * t.bytes ≤ memory

@@ -1,5 +1,6 @@
 -- Operands by where they come from, and an element by what it comes to: masked off, faulted, moved field by field, or computed.
 use Rattle.std.proofs.Common.{◌≡◌, ℕ, suc, ◌+◌, ◌-◌, ◌*◌, ◌^◌, ◌<◌, ◌≤◌, Bool, true, false, cond, ◌&&◌, eqb, List, [], ◌∷◌, length, sym, refl, ap, ◌∙◌, subst, mul-le-mul_right, mod-eq_of_lt, add-one, arith, w64, Fits}
+use Rattle.std.specs.Prelude.{Result, Ok, Err, ⊤}
 use Rattle.fixed.specs.declared.Element.{Element}
 use Rattle.alu.specs.Element.{element_of}
 use Rattle.control.specs.declared.Board.{Board}
@@ -10,8 +11,6 @@ use Rattle.layout.specs.Layout.{bytes_at, with_bytes, element_at, with_element, 
 use Rattle.layout.proofs.BytesLaws.{length-with_bytes}
 use Rattle.layout.proofs.ElementLaws.{length-with_element}
 use Rattle.access.specs.declared.Fault.{Fault}
-use Rattle.access.specs.declared.AccessTest.{AccessTest}
-use Rattle.access.specs.declared.AccessTest.TheVariants.{Granted, Faulted}
 use Rattle.access.specs.Access.{field_address, fields_access}
 use Rattle.plan.specs.declared.Read.{Read}
 use Rattle.plan.specs.declared.Action.{Action}
@@ -171,47 +170,48 @@ module _ (vlenb : ℕ) (file₀ memory₀ : List ℕ) (store : Bool) (g : Group)
 
 -- ---- elements
 
-module _ (vlenb : ℕ) (rights file memory file' memory' : List ℕ) (store : Bool) (g : Group) (n i a : ℕ) (v : AccessTest)
+module _ (vlenb : ℕ) (rights file memory file' memory' : List ℕ) (store : Bool) (g : Group) (n i a : ℕ) (v : Result ⊤ Fault)
     (p : v ≡ fields_access rights (length memory) store a n 0 (nfields g)) (x : List ℕ) (c : Control) where
   abbrev moves : Effect Fault (List Write)
   moves = transferring vlenb rights (core_at file memory x c) store g n i a
 
-  pub faulted : (f : Fault) → v ≡ Faulted f → Did vlenb moves (core_at file memory x c) v (core_at file memory x c)
-  faulted f q =
-      let h : fields_access rights (length memory) store a n 0 (nfields g) ≡ Faulted f = cc in
-      record { check = q ∙ rw h; state = rw h }
+  pub faulted : (f : Fault) (r : Result ⊤ Fault) → v ≡ Err f → r ≡ Err f
+      → Did vlenb moves (core_at file memory x c) r (core_at file memory x c)
+  faulted f r q t =
+      let h : fields_access rights (length memory) store a n 0 (nfields g) ≡ Err f = cc in
+      record { check = t ∙ rw h; state = rw h }
 
-  pub moved : v ≡ Granted
+  pub moved : v ≡ Ok tt
       → ((x : List ℕ) (c : Control) → core_at file' memory' x c
       ≡ put_all vlenb (each_field (field_write vlenb file memory store g n i a) 0 (nfields g)) (core_at file memory x c))
-      → Did vlenb moves (core_at file memory x c) v (core_at file' memory' x c)
+      → Did vlenb moves (core_at file memory x c) (Ok tt) (core_at file' memory' x c)
   moved q d =
-      let h : fields_access rights (length memory) store a n 0 (nfields g) ≡ Granted = cc in
-      record { check = q ∙ rw h; state = rw h (d x c) }
+      let h : fields_access rights (length memory) store a n 0 (nfields g) ≡ Ok tt = cc in
+      record { check = rw h; state = rw h (d x c) }
 
 pub computed : (vlenb : ℕ) (i o o' p p' d d' v v' : ℕ) (file memory file' x : List ℕ) (c : Control) (g : Group) (k : Compute) (r : Element)
     → o ≡ o' → p ≡ p' → d ≡ d' → v ≡ v' → r ≡ element_of k.sew k.vxrm o p d v k.op
     → file' ≡ with_element vlenb file g.reg g.eew i r.value
     → Did vlenb (write (to_registers g i (element_of k.sew k.vxrm o' p' d' v' k.op) ∷ []))
-    (core_at file memory x c) Granted (core_at file' memory x (saturating r.saturates c))
+    (core_at file memory x c) (Ok tt) (core_at file' memory x (saturating r.saturates c))
 unfolding put_all put_of
 computed vlenb i o o' p p' d d' v v' file memory file' x c g k r eo ep ed ev e l =
     let h : element_of k.sew k.vxrm o' p' d' v' k.op ≡ r = rw (← eo, ← ep, ← ed, ← ev, ← e) in
     record { check = refl; state = rw (h, l) }
 
 -- by the address as it was worked out
-pub transfers-at : (vlenb : ℕ) (rights : List ℕ) (s s' : Core) (t : Transfer) (g : Group) (r : AccessTest) (a i o p : ℕ) → o ≡ p
+pub transfers-at : (vlenb : ℕ) (rights : List ℕ) (s s' : Core) (t : Transfer) (g : Group) (r : Result ⊤ Fault) (a i o p : ℕ) → o ≡ p
     → a ≡ element_address t i o → Did vlenb (transferring vlenb rights s t.store g t.bytes i a) s r s'
     → Did vlenb (transferring vlenb rights s t.store g t.bytes i (element_address t i p)) s r s'
 transfers-at vlenb rights s s' t g r a i o p e h d = rw (h, e) at d
 
 module _ (b : Board) (rights : List ℕ) (s : Core) (e : Elementwise) (i : ℕ) (t : Bool)
     (p : t ≡ active_of b.vlenb s.registers e.masked i) where
-  pub masked_off : t ≡ false → Did b.vlenb (effect_of b rights s e i) s Granted s
+  pub masked_off : t ≡ false → Did b.vlenb (effect_of b rights s e i) s (Ok tt) s
   unfolding effect_of
   masked_off n = let h = sym p ∙ n in record { check = rw h; state = rw h }
 
-  pub acted : {v : Action} {r : AccessTest} {s' : Core} → t ≡ true → e.action ≡ v → Did b.vlenb (acting_of b rights s e i v) s r s'
+  pub acted : {v : Action} {r : Result ⊤ Fault} {s' : Core} → t ≡ true → e.action ≡ v → Did b.vlenb (acting_of b rights s e i v) s r s'
       → Did b.vlenb (effect_of b rights s e i) s r s'
   unfolding effect_of
   acted {r = r} {s'} n q d =

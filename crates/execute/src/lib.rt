@@ -2,18 +2,17 @@
 
 #![tactic(auto)]
 
-ghost use Rattle.std.specs.Prelude.{◌≡◌, ℕ, ◌+◌, ◌*◌, ◌≤◌, cond, T, List, length};
+ghost use Rattle.std.specs.Prelude.{◌≡◌, ℕ, ◌+◌, ◌*◌, ◌≤◌, cond, T, List, length, Ok};
 ghost use Rattle.control.specs.declared.Control.{Control};
 ghost use Rattle.layout.specs.Layout.{bytes_at, with_bytes, element_at, with_element, Inside, byte_size};
 ghost use Rattle.group.specs.Group.{nfields, span_of};
-ghost use Rattle.access.specs.declared.AccessTest.TheVariants.{Granted};
 ghost use Rattle.plan.specs.declared.Action.TheVariants as Act;
 ghost use Rattle.machine.specs.Effect.{saturating, put_all, value_of, active_of, element_address};
 ghost use Rattle.machine.specs.Effect.{each_field, field_write, computing, transferring, effect_of};
 ghost use Rattle.machine.specs.OneTurn.{set_at};
 ghost use Rattle.execute.specs.Step.{ReadInside, FieldsInside, Ready, OperandsFit, core_at, Did};
 
-use access::AccessTest;
+use access::Fault;
 use control::Board;
 use group::Group;
 use plan::{Compute, Elementwise, Read, Transfer};
@@ -55,7 +54,7 @@ pub fn set_at(registers: &[u8], vlenb: usize, masked: bool, reg: usize, i: usize
 fn compute(registers: &mut [u8], vlenb: usize, e: Elementwise, k: Compute, i: usize) -> bool
     requires { Ready (length registers.old) vlenb e i × OperandsFit vlenb registers.old e k i }
     ensures { (memory x : List ℕ) (c : Control) → Did vlenb (computing vlenb registers.old e k i)
-        (core_at registers.old memory x c) Granted (core_at registers.new memory x (saturating result c)) }
+        (core_at registers.old memory x c) (Ok tt) (core_at registers.new memory x (saturating result c)) }
 {
     let vs2 = e.vs2;
     let vs1 = e.vs1;
@@ -85,7 +84,7 @@ pub fn compute_element(
         × (OperandsFit board.vlenb registers.old e k i × (e.action ≡ Act.Compute k)) }
     ensures { (rights memory x : List ℕ) (c : Control) → Did board.vlenb
         (effect_of board rights (core_at registers.old memory x c) e i)
-        (core_at registers.old memory x c) Granted (core_at registers.new memory x (saturating result c)) }
+        (core_at registers.old memory x c) (Ok tt) (core_at registers.new memory x (saturating result c)) }
 {
     let vlenb = board.vlenb as usize;
     if !active(registers, vlenb, e.masked, i) {
@@ -175,7 +174,7 @@ fn transfer(
     n: u64,
     i: usize,
     a: u64,
-) -> AccessTest
+) -> Result<(), Fault>
     requires { FieldsInside (length registers.old) vlenb dest i
         × ((dest.reg + span_of dest ≤ 32)
         × ((length rights.now ≡ 256) × ((length memory.old ≤ 65536) × T (byte_size n)))) }
@@ -183,16 +182,11 @@ fn transfer(
         (transferring vlenb rights.now (core_at registers.old memory.old x c) store dest n i a)
         (core_at registers.old memory.old x c) result (core_at registers.new memory.new x c) }
 {
-    let check = access::segment(rights, memory.len(), store, a, n, dest.nf);
-    match check {
-        AccessTest::Faulted(_) => check,
-        AccessTest::Granted => {
-            move_fields(
-                registers, memory, vlenb, store, dest, n as usize, i, a as usize,
-            );
-            check
-        }
-    }
+    access::segment(rights, memory.len(), store, a, n, dest.nf)?;
+    move_fields(
+        registers, memory, vlenb, store, dest, n as usize, i, a as usize,
+    );
+    Ok(())
 }
 
 // Element i of a load or a store, from the state as it is: granted, or its fault.
@@ -204,7 +198,7 @@ pub fn transfer_element(
     e: Elementwise,
     t: Transfer,
     i: usize,
-) -> AccessTest
+) -> Result<(), Fault>
     requires { Ready (length registers.old) board.vlenb e i
         × ((length rights.now ≡ 256)
         × ((length memory.old ≤ 65536) × (T (byte_size t.bytes) × (e.action ≡ Act.Transfer t)))) }
@@ -216,7 +210,7 @@ pub fn transfer_element(
     let vs2 = e.vs2;
     let dest = e.dest;
     if !active(registers, vlenb, e.masked, i) {
-        return AccessTest::Granted;
+        return Ok(());
     }
     let a = address(t, i as u64, value(registers, vlenb, vs2, i));
     transfer(

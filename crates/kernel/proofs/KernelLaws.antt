@@ -1,4 +1,5 @@
 -- The operations that have a kernel; one element by numbers, and by the plan that they say; a stretch of elements.
+use Rattle.std.specs.Prelude.{Ok}
 use Prim.Native.Nat.{ℕ, suc, ◌+◌, ◌-◌, ◌*◌, ◌≤◌, ◌<◌}
 use mathlib.Core.Path.{◌≡◌, refl, sym, ap, subst, ◌∙◌}
 use mathlib.Core.Bool.{Bool, true, false}
@@ -25,7 +26,6 @@ use Rattle.layout.specs.Layout.{bytes_at, with_bytes, byte_size}
 use Rattle.layout.proofs.WidthLaws.{size-elim}
 use Rattle.layout.proofs.BytesLaws.{length-with_bytes}
 use Rattle.layout.proofs.ElementLaws.{with-several}
-use Rattle.access.specs.declared.AccessTest.TheVariants.{Granted}
 use Rattle.plan.specs.declared.Elementwise.{Elementwise}
 use Rattle.machine.specs.Effect.{put_of, put_all, acting_of, effect_of}
 use Rattle.execute.specs.Step.{core_at, Did, none, more}
@@ -111,7 +111,7 @@ module _ (s : Stretch) (op : ℕ) (scalar : Bool) (x n : ℕ) where
   -- element i, from what the code has worked out
   lane_did : (file file' : List ℕ) (i r : ℕ) → exact r ≡ lane_of s op scalar x n file i → file' ≡ with_bytes file (s.vd + i * n) n r
       → (b : Board) (e : Elementwise) → Numbered s op scalar x n b.vlenb e → (rights memory scalars : List ℕ) (c : Control)
-      → Did b.vlenb (effect_of b rights (core_at file memory scalars c) e i) (core_at file memory scalars c) Granted
+      → Did b.vlenb (effect_of b rights (core_at file memory scalars c) e i) (core_at file memory scalars c) (Ok tt)
       (core_at file' memory scalars c)
   unfolding acting_of put_all put_of
   lane_did file file' i r p q b e m rights memory scalars c =

@@ -1,4 +1,5 @@
 -- Element i of a permutation, from what the code has worked out.
+use Rattle.std.specs.Prelude.{Ok}
 use Prim.Native.Nat.{ℕ, ◌+◌, ◌≤◌, ◌<◌}
 use mathlib.Core.Path.{◌≡◌, sym, ◌∙◌, subst}
 use mathlib.Core.Bool.{Bool, true, false, cond}
@@ -10,7 +11,6 @@ use Rattle.control.specs.declared.Control.{Control}
 use Rattle.decode.specs.declared.PermutationOp.{PermutationOp}
 use Rattle.decode.specs.declared.PermutationOp.TheVariants.{Vslideup}
 use Rattle.layout.specs.Layout.{with_element}
-use Rattle.access.specs.declared.AccessTest.TheVariants.{Granted}
 use Rattle.plan.specs.declared.Read.{Read}
 use Rattle.plan.specs.declared.Permute.{Permute}
 use Rattle.plan.specs.declared.Elementwise.{Elementwise}
@@ -61,12 +61,12 @@ module _ (vlenb : ℕ) (file memory scalars : List ℕ) (c : Control) (e : Eleme
   stays-is = rw (← q) (sym s)
 
   pub stayed : t ≡ true
-      → Did vlenb (permuting vlenb file e p i) (core_at file memory scalars c) Granted (core_at file memory scalars c)
+      → Did vlenb (permuting vlenb file e p i) (core_at file memory scalars c) (Ok tt) (core_at file memory scalars c)
   stayed h = let g = stays-is ∙ h in record { check = rw g; state = rw g }
 
   pub moved : (z : ℕ) (file' : List ℕ) → t ≡ false
       → z ≡ permuted_of p.op p.sew e.end (vs2_at vlenb file e.vs2 p.vlmax) x i
       → file' ≡ with_element vlenb file e.dest.reg e.dest.eew i z
-      → Did vlenb (permuting vlenb file e p i) (core_at file memory scalars c) Granted (core_at file' memory scalars c)
+      → Did vlenb (permuting vlenb file e p i) (core_at file memory scalars c) (Ok tt) (core_at file' memory scalars c)
   unfolding put_all put_of
   moved z file' h k r = let g = stays-is ∙ h in record { check = rw g; state = rw (g, ← q, r, k) }

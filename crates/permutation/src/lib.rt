@@ -2,9 +2,8 @@
 
 #![tactic(auto)]
 
-ghost use Rattle.std.specs.Prelude.{◌≡◌, false, cond, List, ℕ, ◌+◌, ◌-◌, ◌≤◌, ◌<◌, length, eqb};
+ghost use Rattle.std.specs.Prelude.{◌≡◌, false, cond, List, ℕ, ◌+◌, ◌-◌, ◌≤◌, ◌<◌, length, eqb, Ok};
 ghost use Rattle.control.specs.declared.Control.{Control};
-ghost use Rattle.access.specs.declared.AccessTest.TheVariants.{Granted};
 ghost use Rattle.plan.specs.declared.Action.TheVariants as Act;
 ghost use Rattle.machine.specs.Effect.{vs2_at, stays_at, permuted_of, permuting, effect_of};
 ghost use Rattle.execute.specs.Step.{ReadInside, Ready, Permutable, core_at, Did};
@@ -96,7 +95,7 @@ fn permuted(registers: &[u8], vlenb: usize, e: Elementwise, p: Permute, x: u64, 
 fn permute(registers: &mut [u8], vlenb: usize, e: Elementwise, p: Permute, i: usize)
     requires { Ready (length registers.old) vlenb e i × Permutable (length registers.old) vlenb e p i }
     ensures { (memory x : List ℕ) (c : Control) → Did vlenb (permuting vlenb registers.old e p i)
-        (core_at registers.old memory x c) Granted (core_at registers.new memory x c) }
+        (core_at registers.old memory x c) (Ok tt) (core_at registers.new memory x c) }
 {
     let vs1 = e.vs1;
     let dest = e.dest;
@@ -115,7 +114,7 @@ pub fn element(registers: &mut [u8], board: Board, e: Elementwise, p: Permute, i
         × (Permutable (length registers.old) board.vlenb e p i × (e.action ≡ Act.Permute p)) }
     ensures { (rights memory x : List ℕ) (c : Control) → Did board.vlenb
         (effect_of board rights (core_at registers.old memory x c) e i)
-        (core_at registers.old memory x c) Granted (core_at registers.new memory x c) }
+        (core_at registers.old memory x c) (Ok tt) (core_at registers.new memory x c) }
 {
     let vlenb = board.vlenb as usize;
     if !execute::active(registers, vlenb, e.masked, i) {

@@ -1,4 +1,5 @@
 -- A turn of a word by the tests of the code: refused, illegal, of one turn, or of elements.
+use Rattle.std.specs.Prelude.{Result, Ok, Err, ⊤}
 use Prim.Native.Nat.{ℕ, ◌≤◌}
 use mathlib.Core.Path.{◌≡◌, refl, sym, ap, ◌∙◌}
 use mathlib.Core.Logic.{⊎_elim}
@@ -9,8 +10,6 @@ use native.Mathlib.Omega.{arith}
 use lib.ListN.{length}
 use Rattle.answer.specs.declared.Answer.{Answer}
 use Rattle.answer.specs.declared.Answer.TheVariants.{Finished, Illegal}
-use Rattle.answer.specs.declared.Verdict.{Verdict}
-use Rattle.answer.specs.declared.Verdict.TheVariants.{Accepted, Refused}
 use Rattle.control.specs.declared.Board.{Board}
 use Rattle.control.specs.declared.Control.{Control}
 use Rattle.control.specs.Board.{Valid}
@@ -44,9 +43,9 @@ use Rattle.one_turn.specs.Performable.{Performable}
 
 -- ---- what an accepted state keeps to
 
-module _ (b : Board) (registers scalars memory : ℕ) (rights : List ℕ) (c : Control) (v : Verdict)
-    (q : v ≡ refusal_of b registers scalars memory rights c) (h : v ≡ Accepted) where
-  accepted : refusal_of b registers scalars memory rights c ≡ Accepted
+module _ (b : Board) (registers scalars memory : ℕ) (rights : List ℕ) (c : Control) (v : Result ⊤ Answer)
+    (q : v ≡ refusal_of b registers scalars memory rights c) (h : v ≡ Ok tt) where
+  accepted : refusal_of b registers scalars memory rights c ≡ Ok tt
   accepted = sym q ∙ h
 
   pub accepted-possible : Possible b c
@@ -100,8 +99,8 @@ module _ (b : Board) (x : List ℕ) (c : Control) (d : Instruction) (p : Plan) (
   elements-planned e q = legal-checked b c (plan_of b x c d) (P.Elements e) (sym h ∙ q) (λ f. let z : ◌≡◌ {A = ℕ} 0 1 = cc in omega arith)
 
 -- what the turn of an instruction that takes one turn relies on, of an accepted state
-pub one-turn-performable : (b : Board) (word registers memory : ℕ) (x rights : List ℕ) (c : Control) (v : Verdict) (d : Instruction)
-    (p : Plan) (t : OneTurn) → v ≡ refusal_of b registers (length x) memory rights c → v ≡ Accepted → d ≡ decode_of word
+pub one-turn-performable : (b : Board) (word registers memory : ℕ) (x rights : List ℕ) (c : Control) (v : Result ⊤ Answer) (d : Instruction)
+    (p : Plan) (t : OneTurn) → v ≡ refusal_of b registers (length x) memory rights c → v ≡ Ok tt → d ≡ decode_of word
     → p ≡ checked_of b c (plan_of b x c d) → p ≡ P.OneTurn t → Performable b registers x c t
 one-turn-performable b word registers memory x rights c v d p t q h k u e =
     let y = one-turn-planned b x c d p u t e in
@@ -126,13 +125,13 @@ module _ (b : Board) (word : ℕ) (file x memory rights : List ℕ) (c : Control
   abbrev before : State
   before = given file x memory rights c
 
-  pub refused-word : (n : ℕ) (v : Verdict) (a : Answer) (r : Turned) → v ≡ refusal_of b (length file) (length x) (length memory) rights c
-      → v ≡ Refused a
+  pub refused-word : (n : ℕ) (v : Result ⊤ Answer) (a : Answer) (r : Turned) → v ≡ refusal_of b (length file) (length x) (length memory) rights c
+      → v ≡ Err a
       → r ≡ still a c → left r file x memory rights ≡ turn_of b word n before
   refused-word n v a r q h e = ap (λ (t : Turned). left t file x memory rights) e ∙ sym ((demand-1 b).refuses word n before a (sym q ∙ h))
 
-  module _ (v : Verdict) (d : Instruction) (p : Plan) (q : v ≡ refusal_of b (length file) (length x) (length memory) rights c)
-      (h : v ≡ Accepted) (k : d ≡ decode_of word) (u : p ≡ checked_of b c (plan_of b x c d)) where
+  module _ (v : Result ⊤ Answer) (d : Instruction) (p : Plan) (q : v ≡ refusal_of b (length file) (length x) (length memory) rights c)
+      (h : v ≡ Ok tt) (k : d ≡ decode_of word) (u : p ≡ checked_of b c (plan_of b x c d)) where
     -- the word's plan is w
     planned-turn : (n : ℕ) (w : Plan) (o : Outcome) → plan_of b x c d ≡ w → o ≡ plan_turn b w n before → o ≡ turn_of b word n before
     unfolding turn_of

@@ -10,7 +10,7 @@ ghost use Rattle.machine.specs.Call.{given, left};
 ghost use Rattle.machine.specs.Machine.{turn_of};
 
 use access::FaultPlace;
-use answer::{Answer, Verdict};
+use answer::Answer;
 use control::{Board, Control};
 use machine::Turned;
 use plan::Plan;
@@ -51,7 +51,7 @@ pub fn turn(
         ≡ turn_of board word allowance
         (given registers.old scalars.old memory.old rights.now control) }
 {
-    let verdict = refusal::refusal(
+    let refused = refusal::refusal(
         board,
         registers.len(),
         scalars.len(),
@@ -59,7 +59,7 @@ pub fn turn(
         rights,
         control,
     );
-    if let Verdict::Refused(answer) = verdict {
+    if let Err(answer) = refused {
         return answered(answer, control);
     }
     match legality::checked(board, scalars, control, decode::decode(word)) {

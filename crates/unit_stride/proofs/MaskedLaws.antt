@@ -1,4 +1,5 @@
 -- A unit-stride access under a mask, one element after the other: what the loop keeps, and how each way out meets the contract.
+use Rattle.std.specs.Prelude.{Result, Ok, Err, ⊤}
 use Prim.Native.Nat.{ℕ, suc, ◌+◌, ◌/◌, ◌^◌, ◌≤◌, ◌<◌}
 use mathlib.Core.Path.{◌≡◌, refl, sym, ◌∙◌}
 use mathlib.Core.Bool.{Bool, true, false, ◌&&◌, cond}
@@ -15,8 +16,6 @@ use Rattle.width.specs.Width.{flag}
 use Rattle.answer.specs.declared.Answer.TheVariants.{Finished}
 use Rattle.layout.specs.Layout.{Inside}
 use Rattle.access.specs.declared.Fault.{Fault}
-use Rattle.access.specs.declared.AccessTest.{AccessTest}
-use Rattle.access.specs.declared.AccessTest.TheVariants.{Granted, Faulted}
 use Rattle.access.specs.Access.{page_of, nothing_wanted, access_of}
 use Rattle.plan.specs.declared.Transfer.{Transfer}
 use Rattle.machine.specs.Effect.{element_address}
@@ -57,7 +56,7 @@ module _ (active : ℕ → Bool) (rights : List ℕ) (memory : ℕ) (t : Transfe
   -- k elements have been passed
   pub record Walking (k : ℕ) (c : Tally) : Type 0 where
     pub within : k ≤ n
-    pub passed : (j : ℕ) → j < k → test_of active rights memory t (v + j) ≡ Granted
+    pub passed : (j : ℕ) → j < k → test_of active rights memory t (v + j) ≡ Ok tt
     pub counted : Counted active page v k c.pages c.next
     -- no later element lies before the last page
     pub ascending : (j : ℕ) → k ≤ j → j < n → inside (v + j) ≡ true → c.next ≤ suc (page (v + j))
@@ -101,14 +100,14 @@ module _ (active : ℕ → Bool) (rights : List ℕ) (memory : ℕ) (t : Transfe
           go false f = rw f (w.ascending j (omega arith) o i)
 
       -- an element that is granted: its page is tested where it is active
-      granted-tested : (p : Bool) → active (v + k) ≡ p → test_of active rights memory t (v + k) ≡ Granted → (p && inside (v + k)) ≡ p
+      granted-tested : (p : Bool) → active (v + k) ≡ p → test_of active rights memory t (v + k) ≡ Ok tt → (p && inside (v + k)) ≡ p
       granted-tested false e h = refl
       granted-tested true e h = granted-inside active rights memory t (v + k) e h
 
       abbrev seen : Tally
       seen = tallied_of c (active (v + k) && inside (v + k)) (page (v + k))
 
-      element-passed : test_of active rights memory t (v + k) ≡ Granted → Walking (k + 1) seen
+      element-passed : test_of active rights memory t (v + k) ≡ Ok tt → Walking (k + 1) seen
       element-passed h =
           let e : (active (v + k) && inside (v + k)) ≡ active (v + k) = granted-tested (active (v + k)) refl h in
           let i : active (v + k) ≡ true → inside (v + k) ≡ true = λ p. sym (rw p) ∙ e ∙ p in
@@ -123,7 +122,7 @@ module _ (active : ℕ → Bool) (rights : List ℕ) (memory : ℕ) (t : Transfe
           })
 
       -- an element that faults is active
-      faulted-active : (p : Bool) (f : Fault) → active (v + k) ≡ p → test_of active rights memory t (v + k) ≡ Faulted f → p ≡ true
+      faulted-active : (p : Bool) (f : Fault) → active (v + k) ≡ p → test_of active rights memory t (v + k) ≡ Err f → p ≡ true
       faulted-active true f e h = refl
       faulted-active false f e h = absurd (let z : ◌≡◌ {A = ℕ} 0 1 = cc in omega arith)
 
@@ -132,7 +131,7 @@ module _ (active : ℕ → Bool) (rights : List ℕ) (memory : ℕ) (t : Transfe
       fault-pages true e a = rw (add-one k) (tally-counted true a (λ z. e)).count
       fault-pages false e a = rw add-zero w.counted.count
 
-      element-faulted : (f : Fault) → test_of active rights memory t (v + k) ≡ Faulted f
+      element-faulted : (f : Fault) → test_of active rights memory t (v + k) ≡ Err f
           → Tested active rights memory t v n
           (record { answer = f.answer; element = v + k; pages = seen.pages; wanted = f.place.wanted })
       element-faulted f h =
@@ -141,19 +140,19 @@ module _ (active : ℕ → Bool) (rights : List ℕ) (memory : ℕ) (t : Transfe
           (rw a (fault-pages (inside (v + k)) refl a))
 
       -- from what the code has: whether the element is active, its address, whether its page is tested, the tally after it and its test
-      module _ (acts : Bool) (a : ℕ) (tests : Bool) (c' : Tally) (x : AccessTest) (p : acts ≡ active (v + k))
+      module _ (acts : Bool) (a : ℕ) (tests : Bool) (c' : Tally) (x : Result ⊤ Fault) (p : acts ≡ active (v + k))
           (q : a ≡ element_address t (v + k) 0) (r : tests ≡ page_tested memory a t.bytes) (s : c' ≡ tallied_of c (acts && tests) (a / 256))
-          (y : x ≡ cond acts (access_of rights memory t.store a t.bytes) Granted) where
+          (y : x ≡ cond acts (access_of rights memory t.store a t.bytes) (Ok tt)) where
         the-test : test_of active rights memory t (v + k) ≡ x
         the-test = sym (y ∙ rw (p, q))
 
         the-tally : c' ≡ seen
         the-tally = s ∙ rw (p, r, q)
 
-        pub walking-more : x ≡ Granted → Walking (k + 1) c'
+        pub walking-more : x ≡ Ok tt → Walking (k + 1) c'
         walking-more z = rw the-tally (element-passed (the-test ∙ z))
 
-        pub walking-fault : (f : Fault) → x ≡ Faulted f
+        pub walking-fault : (f : Fault) → x ≡ Err f
             → Tested active rights memory t v n
             (record { answer = f.answer; element = v + k; pages = c'.pages; wanted = f.place.wanted })
         walking-fault f z = rw the-tally (element-faulted f (the-test ∙ z))

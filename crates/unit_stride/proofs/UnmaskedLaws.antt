@@ -1,4 +1,5 @@
 -- A unit-stride access without a mask, by its pages: the start's alignment, how many elements lie inside memory, and the first closed page.
+use Rattle.std.specs.Prelude.{Ok}
 use Prim.Native.Nat.{ℕ, zero, suc, ◌+◌, ◌-◌, ◌*◌, ◌/◌, ◌%◌, ◌≤◌, ◌<◌, min}
 use mathlib.Core.Path.{◌≡◌, refl, sym, ap, subst, ◌∙◌}
 use mathlib.Core.Bool.{Bool, true, false}
@@ -16,7 +17,6 @@ use Rattle.layout.proofs.WidthLaws.{size-elim, size-pos}
 use Rattle.answer.specs.declared.Answer.{Answer}
 use Rattle.answer.specs.declared.Answer.TheVariants.{Finished}
 use Rattle.access.specs.declared.Wanted.{Wanted}
-use Rattle.access.specs.declared.AccessTest.TheVariants.{Granted}
 use Rattle.access.specs.Access.{page_of, needed, nothing_wanted, fault_of, misaligned, denied}
 use Rattle.access.proofs.AccessLaws.{is-aligned, facts-granted, faults-misaligned, faults-past-memory, faults-closed}
 use Rattle.plan.specs.declared.Transfer.{Transfer}
@@ -92,8 +92,13 @@ module _ (rights : List ℕ) (right first last : ℕ) where
     pub scanned-closed : get_or rights page 0 < right → FirstClosed rights right first last page
     scanned-closed l = record { least = s.least; most = s.most; before = s.before; closed = λ h. l }
 
-    pub scanned-all : last < page → FirstClosed rights right first last page
-    scanned-all l = record { least = s.least; most = s.most; before = s.before; closed = λ h. absurd (omega arith) }
+    pub scanned-all : last < page → FirstClosed rights right first last (last + 1)
+    scanned-all l = record {
+      least = omega (arith, s.least, s.most);
+      most = omega arith;
+      before = λ p a b. s.before p a (omega arith);
+      closed = λ h. absurd (omega arith);
+    }
 
 -- ---- the access
 
@@ -152,7 +157,7 @@ module _ (rights : List ℕ) (memory : ℕ) (t : Transfer) (v n : ℕ) (g : Pack
     there : (j : ℕ) → j < inside → element_address t (v + j) 0 ≡ at j
     there j l = here j (omega (arith, inside-are)) (omega (arith, within j l))
 
-    granted-at : (j : ℕ) → j < inside → needed t.store ≤ get_or rights (page_of (at j)) 0 → test_of all rights memory t (v + j) ≡ Granted
+    granted-at : (j : ℕ) → j < inside → needed t.store ≤ get_or rights (page_of (at j)) 0 → test_of all rights memory t (v + j) ≡ Ok tt
     granted-at j l r =
         rw (there j l)
         (facts-granted rights memory t.store (at j) t.bytes (record { aligned = multiple j; inside = within j l; right = r }))
@@ -232,7 +237,7 @@ module _ (rights : List ℕ) (memory : ℕ) (t : Transfer) (v n : ℕ) (g : Pack
             let l : d / t.bytes ≤ d = div-le_self d t.bytes in
             record { fits = omega (arith, c.most, last-page, g.few) }
 
-        open_at : (j : ℕ) → j < inside → page_of (at j) < closed → test_of all rights memory t (v + j) ≡ Granted
+        open_at : (j : ℕ) → j < inside → page_of (at j) < closed → test_of all rights memory t (v + j) ≡ Ok tt
         open_at j l m = granted-at j l (rw (← r) (c.before (page_of (at j)) (omega arith) m))
 
         not-past-last : (j : ℕ) → j < inside → page_of (at j) ≤ page_of (at (inside - 1))
@@ -272,7 +277,7 @@ module _ (rights : List ℕ) (memory : ℕ) (t : Transfer) (v n : ℕ) (g : Pack
 
         -- no page of theirs is closed
         module _ (q : page_of (at (inside - 1)) < closed) where
-          all-open : (j : ℕ) → j < inside → test_of all rights memory t (v + j) ≡ Granted
+          all-open : (j : ℕ) → j < inside → test_of all rights memory t (v + j) ≡ Ok tt
           all-open j l = open_at j l (omega (arith, not-past-last j l))
 
           all-pages : pages_from all rights memory t v inside ≡ page_of (at (inside - 1)) - start / 256 + 1

@@ -4,17 +4,16 @@ use mathlib.Core.Path.{◌≡◌}
 use mathlib.Core.Bool.{Bool, true, false, not, ◌&&◌, cond}
 use borrow.Author.Tests.{lt-ltb, le-ltb, eq-eqb, ne_eqb}
 use lib.Dec.{eqb}
+use Rattle.std.specs.Prelude.{Result, Err, ⊤}
 use Rattle.answer.specs.declared.Answer.{Answer}
-use Rattle.answer.specs.declared.Verdict.{Verdict}
-use Rattle.answer.specs.declared.Verdict.TheVariants.{Refused}
 use Rattle.refusal.specs.Refusal.{refusal_of}
 use borrow.Author.Rules.{rules}
 use Rattle.refusal.proofs.refusal.Goals as goal
 
-refused : (t : Bool) (a : Answer) (v : Verdict) → t ≡ true → Refused a ≡ cond t (Refused a) v
+refused : (t : Bool) (a : Answer) (v : Result ⊤ Answer) → t ≡ true → Err a ≡ cond t (Err a) v
 refused t a v e = rw e
 
-passed : (t : Bool) (a : Answer) (v w : Verdict) → t ≡ false → w ≡ v → w ≡ cond t (Refused a) v
+passed : (t : Bool) (a : Answer) (v w : Result ⊤ Answer) → t ≡ false → w ≡ v → w ≡ cond t (Err a) v
 passed t a v w e h = rw e h
 
 differ : (m n : ℕ) → (m ≡ n → ⊥) → not (eqb m n) ≡ true
