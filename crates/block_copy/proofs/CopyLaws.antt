@@ -27,7 +27,7 @@ use Rattle.access.proofs.AccessLaws.{granted-facts, testing-none, testing-more, 
 use Rattle.plan.specs.declared.Action.TheVariants as A
 use Rattle.machine.specs.State.{Core}
 use Rattle.execute.specs.Step.{core_at, Did, Ran, none, more, Attempted, done}
-use Rattle.execute.proofs.StepLaws.{first-inside, moving-none, moving-more, moving-done, moved, transfers-at, acted}
+use Rattle.execute.proofs.StepLaws.{first-inside, moving-none, moving-last, moved, transfers-at, acted}
 use Rattle.unit_stride.proofs.PackedLaws.{onward}
 use Rattle.plan.specs.declared.Read.{Read}
 use Rattle.plan.specs.declared.Read.TheVariants as R
@@ -199,9 +199,8 @@ module _ (b : Board) (rights file memory file' memory' : List ℕ) (e : Elementw
       let n = t.bytes in
       let none = moving-none b.vlenb file memory t.store g n i a in
       let room : a + nfields g * n ≤ length memory = rw o.single (omega (arith, inside)) in
-      moving-done b.vlenb file memory t.store g n i a file' memory' _ _ 1
-      (moving-more b.vlenb file memory t.store g n i a file memory g.reg a 0 none (omega arith) file' memory' _ m room r s refl)
-      one_field
+      moving-last b.vlenb file memory t.store g n i a file memory g.reg a 0 none (omega arith) (omega (arith, o.single)) file' memory' _ m room
+      r s refl
 
   element-moved : (x : List ℕ) (c : Control)
       → Did b.vlenb (effect_of b rights (core_at file memory x c) e i) (core_at file memory x c) Granted (core_at file' memory' x c)
