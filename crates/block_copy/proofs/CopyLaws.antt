@@ -1,16 +1,19 @@
 -- Elements that lie one after the other in memory, moved as one copy: each of them is moved so, and none faults.
 use Rattle.std.specs.Prelude.{Ok}
-use Prim.Native.Nat.{ℕ, zero, suc, ◌+◌, ◌-◌, ◌*◌, ◌/◌, ◌%◌, ◌^◌, ◌≤◌, ◌<◌}
+use Prim.Native.Nat.{ℕ, zero, suc, ◌+◌, ◌-◌, ◌*◌, ◌/◌, ◌%◌, ◌≤◌, ◌<◌}
 use mathlib.Core.Path.{◌≡◌, refl, sym, ap, subst, ◌∙◌}
 use mathlib.Core.Bool.{Bool, true, false, not, ◌&&◌, ◌||◌, cond, and_assoc}
 use mathlib.Core.List.{List}
-use native.Mathlib.Numerals.{add-one}
 use native.Mathlib.Nat.{add-zero, add-suc}
 use native.Mathlib.Omega.{arith}
-use lib.ListN.{length, get_or, set, length-set}
+use lib.ListN.{length, get_or, drop, length-set}
+use lib.Seq.{paste, paste-suc}
+use borrow.Rule.Slice.PartMut.{put_mid}
+use Rattle.std.specs.List.{between}
+use Rattle.std.proofs.lemmas.List.{get_or-drop, length-drop, take-take}
+use Rattle.std.proofs.lemmas.List.Edits.{length-between, paste_none}
+use Rattle.std.proofs.lemmas.Slice.{put_mid-paste}
 use lib.Dec.{T, eqb}
-use mir.Syntax.{w64}
-use mir.Val.{Fits}
 use borrow.Author.Tests.{eqb-true, eqb-false, not-true, not-false}
 use Rattle.laws.proofs.Apart.{both_left, both_right}
 use Rattle.answer.specs.declared.Answer.{Answer}
@@ -27,7 +30,7 @@ use Rattle.access.proofs.AccessLaws.{granted-facts, testing-none, testing-done}
 use Rattle.plan.specs.declared.Action.TheVariants as A
 use Rattle.machine.specs.State.{Core}
 use Rattle.execute.specs.Step.{core_at, Did, Ran, none, more, Attempted, done}
-use Rattle.execute.proofs.StepLaws.{first-inside, moving-none, moving-more, moving-done, moved, transfers-at, acted}
+use Rattle.execute.proofs.StepLaws.{first-inside, moving-none, moving-last, moved, transfers-at, acted}
 use Rattle.unit_stride.proofs.PackedLaws.{onward}
 use Rattle.plan.specs.declared.Read.{Read}
 use Rattle.plan.specs.declared.Read.TheVariants as R
@@ -42,27 +45,22 @@ use Rattle.block_copy.specs.Copy.{copied, starts_at, in_order_of, AllGranted, Co
 -- ---- bytes
 
 module _ (to : List ℕ) (at : ℕ) (from : List ℕ) (a : ℕ) where
-  -- while bytes are copied: k of them have been
-  pub record Copying (n : ℕ) (now : List ℕ) (k : ℕ) : Type 0 where
-    pub most : k ≤ n
-    pub same : length now ≡ length to
-    pub list : now ≡ copied to at from a k
-
-  pub copying-none : (n : ℕ) → Copying n to 0
+  copied-pasted : (n : ℕ) → at + n ≤ length to → a + n ≤ length from → copied to at from a n ≡ paste to at (drop a from) n
   unfolding copied
-  copying-none n = record { most = omega arith; same = refl; list = refl }
+  copied-pasted zero p q = paste_none to at (drop a from)
+  copied-pasted (suc n) p q =
+      let l : n < length (drop a from) = rw (length-drop a from) (omega arith) in
+      rw (copied-pasted n (omega arith) (omega arith), ← get_or-drop a from n 0) (paste-suc to at (drop a from) n 0 (omega arith) l)
 
-  pub copying-more : (n : ℕ) (now next : List ℕ) (k : ℕ) → Copying n now k → k < n → next ≡ set now (at + k) (get_or from (a + k) 0)
-      → Copying n next (k + 1)
-  unfolding copied
-  copying-more n now next k z l e = record {
-    most = omega arith;
-    same = ap length e ∙ simp length-set z.same;
-    list = e ∙ rw (add-one k, z.list);
-  }
-
-  pub copying-done : (n : ℕ) (now : List ℕ) (k : ℕ) → Copying n now k → n ≤ k → now ≡ copied to at from a n
-  copying-done n now k z l = let e : n ≡ k = omega (arith, z.most) in rw e z.list
+  -- the part of the one list, as the library leaves it with the part of the other
+  pub part-copied : (n : ℕ) (part : List ℕ) → at + n ≤ length to → a + n ≤ length from → part ≡ between a (a + n) from
+      → put_mid at (at + n - at) to part ≡ copied to at from a n
+  part-copied n part p q e =
+      let s : a + n - a ≡ n = omega arith in
+      let k : at + n - at ≡ n = omega arith in
+      let l : n ≡ length (between a (a + n) from) = rw (length-between from a (a + n) q) (sym s) in
+      put_mid-paste at (at + n - at) to part (between a (a + n) from) n e (sym k) l
+      ∙ rw (s, take-take n n (drop a from) (omega arith), copied-pasted n p q)
 
   length-copied : (n : ℕ) → length (copied to at from a n) ≡ length to
   unfolding copied
@@ -103,9 +101,6 @@ module _ (rights : List ℕ) (memory : ℕ) (t : Transfer) (v n : ℕ) where
   all-granted _ (first-faults k f l h e) q =
       absurd (finished-never f.answer q
       (reason-traps rights memory t.store t.bytes f (reasons.element rights memory t.store _ t.bytes f e)))
-
-  pub none-granted : AllGranted rights memory t v n false
-  none-granted = record { each = λ e. absurd (subst T (sym e) tt) }
 
 -- ---- what the tests say
 
@@ -198,9 +193,8 @@ module _ (b : Board) (rights file memory file' memory' : List ℕ) (e : Elementw
       let n = t.bytes in
       let none = moving-none b.vlenb file memory t.store g n i a in
       let room : a + nfields g * n ≤ length memory = rw o.single (omega (arith, inside)) in
-      moving-done b.vlenb file memory t.store g n i a file' memory' _ _ 1
-      (moving-more b.vlenb file memory t.store g n i a file memory g.reg a 0 none (omega arith) file' memory' _ m room r s refl)
-      one_field
+      moving-last b.vlenb file memory t.store g n i a file memory g.reg a 0 none (omega arith) (omega (arith, o.single)) file' memory' _ m room
+      r s refl
 
   element-moved : (x : List ℕ) (c : Control)
       → Did b.vlenb (effect_of b rights (core_at file memory x c) e i) (core_at file memory x c) (Ok tt) (core_at file' memory' x c)
@@ -240,9 +234,6 @@ module _ (b : Board) (rights : List ℕ) (size memory : ℕ) (e : Elementwise) (
     short = g.short some;
   }
 
-  pub bytes-fits : Fits w64 (n * t.bytes)
-  bytes-fits = record { fits = omega (arith, g.short some) }
-
   pub file-room : place_of b e t v + n * t.bytes ≤ size
   file-room =
       let last : n - 1 < n = omega (arith, some) in
@@ -250,16 +241,6 @@ module _ (b : Board) (rights : List ℕ) (size memory : ℕ) (e : Elementwise) (
       let within : 8 * (b.vlenb * e.dest.reg) + (v + (n - 1)) * (8 * t.bytes) + 8 * t.bytes ≤ 8 * size = rw (← g.eew some) lies.within in
       let all : n ≡ suc (n - 1) = omega (arith, some) in
       rw all (omega arith)
-
-  module _ (l : size < 2 ^ 64) where
-    pub register-fits : Fits w64 (b.vlenb * e.dest.reg)
-    register-fits = record { fits = omega (arith, file-room) }
-
-    pub element-fits : Fits w64 (v * t.bytes)
-    element-fits = record { fits = omega (arith, file-room) }
-
-    pub at-fits : Fits w64 (place_of b e t v)
-    at-fits = record { fits = omega (arith, file-room) }
 
   module _ (a : ℕ) (p : a ≡ element_address t v 0) (r : Bool) (y : AllGranted rights memory t v n r) (u : r ≡ true) where
     begins : a + t.bytes ≤ memory

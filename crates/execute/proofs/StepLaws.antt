@@ -1,12 +1,12 @@
 -- Operands by where they come from, and an element by what it comes to: masked off, faulted, moved field by field, or computed.
-use Rattle.std.proofs.Common.{◌≡◌, ℕ, suc, ◌+◌, ◌-◌, ◌*◌, ◌^◌, ◌<◌, ◌≤◌, Bool, true, false, cond, ◌&&◌, eqb, List, [], ◌∷◌, length, sym, refl, ap, ◌∙◌, subst, mul-le-mul_right, mod-eq_of_lt, add-one, arith, w64, Fits}
+use Rattle.std.proofs.Common.{◌≡◌, ℕ, suc, ◌+◌, ◌-◌, ◌*◌, ◌^◌, ◌<◌, ◌≤◌, Bool, true, false, cond, ◌&&◌, eqb, List, [], ◌∷◌, length, sym, refl, ap, ◌∙◌, subst, mul-le-mul_right, mod-eq_of_lt, add-one, arith}
 use Rattle.std.specs.Prelude.{Result, Ok, Err, ⊤}
 use Rattle.fixed.specs.declared.Element.{Element}
 use Rattle.alu.specs.Element.{element_of}
 use Rattle.control.specs.declared.Board.{Board}
 use Rattle.control.specs.declared.Control.{Control}
 use Rattle.group.specs.declared.Group.{Group}
-use Rattle.group.specs.Group.{registers_of, nfields, field_group, span_of}
+use Rattle.group.specs.Group.{registers_of, nfields, field_group}
 use Rattle.layout.specs.Layout.{bytes_at, with_bytes, element_at, with_element, Inside}
 use Rattle.layout.proofs.BytesLaws.{length-with_bytes}
 use Rattle.layout.proofs.ElementLaws.{length-with_element}
@@ -82,7 +82,6 @@ module _ (vlenb : ℕ) (file₀ memory₀ : List ℕ) (store : Bool) (g : Group)
   writes k others = each_field (field_write vlenb file₀ memory₀ store g n i a) k others
 
   pub record Moving (file memory : List ℕ) (reg field k : ℕ) : Type 0 where
-    pub most : k ≤ nfields g
     pub register : reg ≡ (field_group g k).reg
     pub address : field ≡ a + k * n
     pub file-length : length file ≡ length file₀
@@ -95,7 +94,6 @@ module _ (vlenb : ℕ) (file₀ memory₀ : List ℕ) (store : Bool) (g : Group)
 
   pub moving-none : Moving file₀ memory₀ g.reg a 0
   moving-none = record {
-    most = omega arith;
     register = omega arith;
     address = omega arith;
     file-length = refl;
@@ -116,7 +114,6 @@ module _ (vlenb : ℕ) (file₀ memory₀ : List ℕ) (store : Bool) (g : Group)
         → memory' ≡ cond store (with_bytes memory field n (element_at vlenb file reg g.eew i)) memory
         → step ≡ registers_of g → Moving file' memory' (reg + step) (field + n) (k + 1)
     moving-more file' memory' step t u r s p = record {
-      most = omega arith;
       register = omega (arith, p, z.register);
       address = omega (arith, z.address);
       file-length = r-length store r ∙ z.file-length;
@@ -151,22 +148,16 @@ module _ (vlenb : ℕ) (file₀ memory₀ : List ℕ) (store : Bool) (g : Group)
       s-length true e = rw e (length-with_bytes memory field n (element_at vlenb file reg g.eew i))
       s-length false e = rw e
 
-    pub moving-inside : FieldsInside (length file₀) vlenb g i → Inside (length file) vlenb reg g.eew i
-    moving-inside f = rw (z.file-length, z.register) (f k l)
-
-    pub moving-room : a + nfields g * n ≤ length memory₀ → field + n ≤ length memory
-    moving-room u = omega (arith, z.memory-length, z.address, mul-le-mul_right n l)
-
-    pub register-fits : (r : ℕ) → g.reg + span_of g ≤ 32 → r ≡ registers_of g → Fits w64 (reg + r)
-    register-fits r u e = record { fits = omega (arith, z.register, mul-le-mul_right (registers_of g) l) }
-
-    pub field_fits : length memory₀ ≤ 65536 → a + nfields g * n ≤ length memory₀ → Fits w64 (field + n)
-    field_fits h u = record { fits = omega (arith, z.memory-length, moving-room u) }
-
-  pub moving-done : (file memory : List ℕ) (reg field k : ℕ) → Moving file memory reg field k → g.nf < k → (x : List ℕ) (c : Control)
-      → core_at file memory x c ≡ put_all vlenb (writes 0 (nfields g)) (core_at file₀ memory₀ x c)
-  unfolding put_all each_field
-  moving-done file memory reg field k z l x c = let none : nfields g - k ≡ 0 = omega arith in sym (rw none) ∙ z.rest x c
+    -- after the last one
+    pub moving-last : g.nf ≤ k → (file' memory' : List ℕ) (step : ℕ) → length memory₀ ≤ 65536 → a + nfields g * n ≤ length memory₀
+        → file' ≡ cond store file (with_element vlenb file reg g.eew i (bytes_at memory field n))
+        → memory' ≡ cond store (with_bytes memory field n (element_at vlenb file reg g.eew i)) memory
+        → step ≡ registers_of g → (x : List ℕ) (c : Control)
+        → core_at file' memory' x c ≡ put_all vlenb (writes 0 (nfields g)) (core_at file₀ memory₀ x c)
+    unfolding put_all each_field
+    moving-last m file' memory' step t u r s p x c =
+        let none : nfields g - (k + 1) ≡ 0 = omega arith in
+        sym (rw none) ∙ (moving-more file' memory' step t u r s p).rest x c
 
 -- ---- elements
 

@@ -151,15 +151,12 @@ fn move_fields(
         (core_at registers.old memory.old x c) }
 {
     let step = group::registers(dest);
-    let last = dest.nf as u64;
     let mut reg = dest.reg;
     let mut field = a;
-    let mut k: u64 = 0;
-    while k <= last {
+    for _ in 0..=dest.nf {
         move_field(registers, memory, vlenb, store, reg, dest.eew, n, i, field);
         reg += step;
         field += n;
-        k += 1;
     }
 }
 

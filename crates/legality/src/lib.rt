@@ -3,7 +3,6 @@
 #![tactic(auto)]
 
 ghost use Rattle.std.specs.Prelude.{◌≡◌, ◌≤◌, ◌<◌, ◌++◌, length};
-ghost use Rattle.control.specs.Board.{Valid};
 ghost use Rattle.control.specs.Vtype.{sew_of};
 ghost use Rattle.decode.specs.Fields.{Fits};
 ghost use Rattle.plan.specs.Plan.{plan_of};

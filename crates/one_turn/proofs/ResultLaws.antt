@@ -1,7 +1,7 @@
 -- The results that the code leaves are those of the definition, arm by arm.
 use Prim.Native.Nat.{ℕ, ◌*◌, ◌≤◌}
 use mathlib.Core.Path.{◌≡◌, refl, sym, ap, ◌∙◌, subst}
-use mathlib.Core.Bool.{Bool, true, false, not, ◌&&◌, ◌||◌}
+use mathlib.Core.Bool.{true, not}
 use mathlib.Core.List.{List}
 use native.Mathlib.Omega.{arith}
 use lib.ListN.{length}
@@ -30,7 +30,7 @@ use Rattle.plan.specs.declared.Plan.TheVariants as P
 use Rattle.plan.specs.Plan.{scalar_moving_of, plan_of}
 use Rattle.plan.specs.Range.{OneTurnFits, PlanFits}
 use Rattle.plan.proofs.RangeLaws.{plan-range}
-use Rattle.legality.specs.Legal.{startable, writes_mask, keeps_v0, mask_apart, one_turn_legal}
+use Rattle.legality.specs.Legal.{startable, mask_apart, one_turn_legal}
 use Rattle.machine.specs.State.{Core}
 use Rattle.machine.specs.OneTurn.{with_scalar, avl_from, type_from, setting_result, mask_result, reduced_file, packed_file, scalar_move_result}
 use Rattle.machine.specs.OneTurn.{one_turn_result}
@@ -58,20 +58,6 @@ pub registers-left : (file file' memory x : List ℕ) (c : Control) → file' �
 registers-left file file' memory x c p = rw p
 
 pub ruleset left = (result_by, scalar-left, registers-left)
-
-or-holds : (p q : Bool) → p ≡ true → T (not p || q) → T q
-or-holds true q e h = h
-or-holds false q e h = absurd (subst T (sym e) tt)
-
-and-holds : (p q : Bool) → T (p && q) → T q
-and-holds true q h = h
-and-holds false q h = absurd h
-
--- one that writes a mask spares v0 where that is the mask
-pub spares-v0 : (m : MaskInstruction) (v : MaskOp) → m.op ≡ v → writes_mask v ≡ true → T (mask_apart m) → T (keeps_v0 m)
-spares-v0 m v e f h =
-    and-holds (not (eqb m.rd m.vs2)) (keeps_v0 m)
-    (or-holds (writes_mask m.op) (not (eqb m.rd m.vs2) && keeps_v0 m) (ap writes_mask e ∙ f) h)
 
 -- ---- the vector register of a scalar move has elements of SEW bits
 

@@ -6,7 +6,6 @@
 ghost use Rattle.std.specs.Prelude.{◌≡◌, cond, List, ℕ, ◌*◌, ◌^◌, ◌-◌, ◌<◌, length, T, ltb};
 ghost use Rattle.width.specs.Width.{signed, wrap};
 ghost use Rattle.control.specs.declared.Control.{Control};
-ghost use Rattle.control.specs.Board.{Valid};
 ghost use Rattle.control.specs.Control.{with_vstart, set_of};
 ghost use Rattle.decode.specs.Fields.{AvlFits, TypeFits, SettingFits, MaskFits};
 ghost use Rattle.layout.specs.Layout.{element_at, with_element};
@@ -81,10 +80,8 @@ fn count(registers: &[u8], vlenb: usize, m: MaskInstruction, vl: usize) -> u64
     ensures { result ≡ population_of vlenb registers.now m.masked m.vs2 vl }
 {
     let mut n: u64 = 0;
-    let mut i: usize = 0;
-    while i < vl {
+    for i in 0..vl {
         n += u64::from(execute::set_at(registers, vlenb, m.masked, m.vs2, i));
-        i += 1;
     }
     n
 }
@@ -94,12 +91,10 @@ fn first(registers: &[u8], vlenb: usize, m: MaskInstruction, vl: usize) -> usize
     requires { Holds (length registers.now) vlenb vl m }
     ensures { result ≡ first_of vlenb registers.now m.masked m.vs2 0 vl }
 {
-    let mut i: usize = 0;
-    while i < vl {
+    for i in 0..vl {
         if execute::set_at(registers, vlenb, m.masked, m.vs2, i) {
             return i;
         }
-        i += 1;
     }
     vl
 }
@@ -125,8 +120,7 @@ fn first_bit(op: MaskOp, i: usize, first: usize) -> u64
         MaskOp::Vmsbf => u64::from(i < first),
         MaskOp::Vmsif => u64::from(i <= first),
         MaskOp::Vmsof => u64::from(i == first),
-        MaskOp::Vcpop => 0,
-        MaskOp::Vfirst => 0,
+        MaskOp::Vcpop | MaskOp::Vfirst => 0,
     }
 }
 
@@ -150,10 +144,8 @@ fn set_first(registers: &mut [u8], vlenb: usize, m: MaskInstruction, vl: usize)
         ≡ setting_first vlenb vl registers.old m (first_of vlenb registers.old m.masked m.vs2 0 vl) }
 {
     let f = first(registers, vlenb, m, vl);
-    let mut i: usize = 0;
-    while i < vl {
+    for i in 0..vl {
         set_bit(registers, vlenb, m, f, i);
-        i += 1;
     }
 }
 
@@ -173,9 +165,7 @@ fn mask_turn(registers: &mut [u8], scalars: &mut [u64], vlenb: usize, vl: usize,
             let f = first_or_ones(registers, vlenb, m, vl);
             put_scalar(scalars, m.rd, f);
         }
-        MaskOp::Vmsbf => set_first(registers, vlenb, m, vl),
-        MaskOp::Vmsof => set_first(registers, vlenb, m, vl),
-        MaskOp::Vmsif => set_first(registers, vlenb, m, vl),
+        MaskOp::Vmsbf | MaskOp::Vmsof | MaskOp::Vmsif => set_first(registers, vlenb, m, vl),
     }
 }
 

@@ -69,9 +69,7 @@ pub fn pack(registers: &mut [u8], vlenb: usize, p: Packing, vl: usize)
     ensures { registers.new ≡ packed_file vlenb registers.old p vl }
 {
     let mut n: usize = 0;
-    let mut i: usize = 0;
-    while i < vl {
+    for i in 0..vl {
         n = step(registers, vlenb, p, i, n);
-        i += 1;
     }
 }

@@ -61,15 +61,7 @@ fn slid_1down(registers: &[u8], vlenb: usize, vs2: Read, vlmax: u64, vl: u64, x:
 fn stays(op: PermutationOp, x: u64, i: u64) -> bool
     ensures { result ≡ stays_at op x i }
 {
-    match op {
-        PermutationOp::Vid => false,
-        PermutationOp::Vslideup => i < x,
-        PermutationOp::Vslidedown => false,
-        PermutationOp::Vslide1up => false,
-        PermutationOp::Vslide1down => false,
-        PermutationOp::Vrgather => false,
-        PermutationOp::Vrgatherei16 => false,
-    }
+    matches!(op, PermutationOp::Vslideup) && i < x
 }
 
 // What element i gets, where x is the offset, its index, or the scalar that is put in.
@@ -86,8 +78,9 @@ fn permuted(registers: &[u8], vlenb: usize, e: Elementwise, p: Permute, x: u64, 
         PermutationOp::Vslidedown => slid_down(registers, vlenb, vs2, vlmax, x, i),
         PermutationOp::Vslide1up => slid_1up(registers, vlenb, vs2, vlmax, x, i),
         PermutationOp::Vslide1down => slid_1down(registers, vlenb, vs2, vlmax, e.end, x, i),
-        PermutationOp::Vrgather => vs2_at(registers, vlenb, vs2, vlmax, x),
-        PermutationOp::Vrgatherei16 => vs2_at(registers, vlenb, vs2, vlmax, x),
+        PermutationOp::Vrgather | PermutationOp::Vrgatherei16 => {
+            vs2_at(registers, vlenb, vs2, vlmax, x)
+        }
     }
 }
 

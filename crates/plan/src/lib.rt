@@ -4,7 +4,6 @@
 
 ghost use Rattle.std.specs.Prelude.{◌≡◌, ◌≤◌, ◌<◌, length, cond};
 ghost use Rattle.width.specs.Width.{signed, wrap};
-ghost use Rattle.control.specs.Board.{Valid};
 ghost use Rattle.control.specs.Vtype.{sew_of};
 ghost use Rattle.decode.specs.Fields.{SourceFits, ArithmeticFits, PermutationFits, AccessFits, Fits};
 ghost use Rattle.plan.specs.declared.Read.TheVariants.{Constant};

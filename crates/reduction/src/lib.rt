@@ -54,10 +54,8 @@ fn fold(registers: &[u8], vlenb: usize, r: Reduction, vl: usize) -> u64
 {
     let vs1 = r.vs1;
     let mut acc = layout::read_element(registers, vlenb, vs1.reg, vs1.eew, 0);
-    let mut i: usize = 0;
-    while i < vl {
+    for i in 0..vl {
         acc = step(registers, vlenb, r, i, acc);
-        i += 1;
     }
     acc
 }

@@ -22,24 +22,6 @@ pack-requires c = search packing-holds
 pub scalar_turn-requires : goal.scalar_turn-requires
 scalar_turn-requires c = search move-holds
 
-pub shape_of-registers : goal.shape_of-registers
-shape_of-registers c =
-    elim c.match-t.branch [
-      | in-Mask w ↦ rw w.registers-is (search rules)
-      | in-Reduction w ↦ rw w.registers-is (search rules)
-      | in-Packing w ↦ rw w.registers-is (search rules)
-      | in-ScalarMove w ↦ rw w.registers-is (search rules)
-    ]
-
-pub shape_of-scalars : goal.shape_of-scalars
-shape_of-scalars c =
-    elim c.match-t.branch [
-      | in-Mask w ↦ rw w.scalars-is (search rules)
-      | in-Reduction w ↦ rw w.scalars-is
-      | in-Packing w ↦ rw w.scalars-is
-      | in-ScalarMove w ↦ rw w.scalars-is (search rules)
-    ]
-
 pub returns : goal.returns
 returns c =
     let given = c.args.control in
