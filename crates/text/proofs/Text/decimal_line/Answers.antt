@@ -1,5 +1,5 @@
 use Rattle.text.proofs.TextLaws.{line_wrote, line-room, decimal-length, line-within}
-use Rattle.text.proofs.decimal_line.Goals as goal
+use Rattle.text.proofs.Text.decimal_line.Goals as goal
 
 pub put_byte-requires : goal.put_byte-requires
 put_byte-requires c = search (line-room, decimal-length)
