@@ -3,10 +3,11 @@
 #![tactic(auto)]
 
 ghost use Rattle.std.specs.Prelude.{◌≡◌, ◌+◌, ◌*◌, ◌≤◌, ◌^◌, length};
-ghost use Rattle.text.specs.Text.{Wrote};
+ghost use Rattle.text.specs.Text.{Wrote, Adds};
 ghost use Rattle.case_lines.specs.Lines.{control_at, spaced, control_text};
 
 use control::Control;
+use text::Text;
 
 // The control record: its fields from index `at` on, each in 16 hex digits.
 pub fn control_at(line: &[u8], at: u32) -> Control
@@ -24,26 +25,32 @@ pub fn control_at(line: &[u8], at: u32) -> Control
 }
 
 // Each number in decimal, after a space.
-fn put_spaced(out: &mut [u8], at: usize, numbers: &[u64]) -> usize
-    requires { at + 21 * length numbers.now ≤ 2 ^ 30 }
-    ensures { Wrote out.old at (spaced numbers.now) out.new result }
+fn put_spaced(text: &mut Text, numbers: &[u64])
+    requires { text.old.at + 21 * length numbers.now ≤ 2 ^ 30 }
+    ensures { Adds text.old (spaced numbers.now) text.new }
 {
-    let mut next = at;
-    let mut i: usize = 0;
-    while i < numbers.len() {
-        let value = text::put(out, next, b" ");
-        next = text::put_decimal(out, value, numbers[i]);
-        i += 1;
+    for number in numbers {
+        text.put(b" ");
+        text.put_decimal(*number);
     }
-    next
 }
 
 // The control record: vtype in hex, then the other fields in decimal.
+fn put_control(text: &mut Text, control: Control)
+    requires { text.old.at ≤ 2 ^ 29 }
+    ensures { Adds text.old (control_text control) text.new × (text.new.at ≤ text.old.at + 121) }
+{
+    let fields = control.fields();
+    text.put_short_hex(fields[0]);
+    put_spaced(text, &fields[1..]);
+}
+
+// The same into a buffer from an index on, and the index after it.
 pub fn control_text(out: &mut [u8], at: usize, control: Control) -> usize
     requires { at ≤ 2 ^ 29 }
     ensures { Wrote out.old at (control_text control) out.new result × (result ≤ at + 121) }
 {
-    let fields = control.fields();
-    let next = text::put_short_hex(out, at, fields[0]);
-    put_spaced(out, next, &fields[1..])
+    let mut text = Text { out, at };
+    put_control(&mut text, control);
+    text.at
 }

@@ -1,19 +1,14 @@
-use Rattle.sheet.proofs.RunLaws.{turning-none, turning-more, turning-done, turning-last}
-use borrow.Author.Rules.{rules}
+use Rattle.sheet.proofs.RunLaws.{turning-none, turning-more, turning-done, turning-answer, turning-near, turning-last, last-answer, last-near}
 use Rattle.sheet.proofs.run_word.Goals as goal
 
-pub loop-left-init : goal.loop-left-init
-loop-left-init c = (search rules, search turning-none)
+pub loop-turn-init : goal.loop-turn-init
+loop-turn-init c = search turning-none
 
-pub returns-then-number-ne1 : goal.returns-then-number-ne1
-returns-then-number-ne1 c = (
-  turning-done _ _ _ _ _ _ _ _ _ _ _ _ _
-      c.loop-left.invariant.1 c.number.ensures c.if-number-ne1.true,
-  search rules,
-)
+pub loop-turn-preserved : goal.loop-turn-preserved
+loop-turn-preserved c = search turning-more
 
-pub loop-left-preserved : goal.loop-left-preserved
-loop-left-preserved c = (search rules, search turning-more)
+pub returns-in_default : goal.returns-in_default
+returns-in_default c = (search turning-done, (search turning-answer, search turning-near))
 
 pub returns : goal.returns
-returns c = (search turning-last, search rules)
+returns c = (search turning-last, (search last-answer, search last-near))
