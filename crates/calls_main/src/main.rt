@@ -6,8 +6,8 @@
 
 #![tactic(auto)]
 
+use answer::Answer;
 use control::{Board, Control};
-use csr::{CsrRead, CsrWrite};
 use std::array;
 use std::io::{self, BufReader, BufWriter, Read, Write};
 use view::ViewPlace;
@@ -30,40 +30,38 @@ fn print_control(output: &mut impl Write, control: Control) -> io::Result<()> {
     output.write_all(&text[..end])
 }
 
-fn print_written(output: &mut impl Write, written: CsrWrite) -> io::Result<()> {
-    write!(output, "{} ", answer::number(written.answer))?;
-    print_control(output, written.control)?;
+fn print_written(output: &mut impl Write, answer: Answer, control: Control) -> io::Result<()> {
+    write!(output, "{} ", u64::from(answer))?;
+    print_control(output, control)?;
     writeln!(output, "")
 }
 
+// The value of a read is 0 beside a refusal.
 fn read(output: &mut impl Write, board: Board, line: &[u8]) -> io::Result<()> {
-    let control = control_of(line);
     let csr = hexadecimal::number(line, 1, 16);
-    let CsrRead { answer, value } = if is_small(board) {
-        csr::small_read(control, csr)
-    } else {
-        csr::read(control, csr)
+    let (answer, value) = match csr::read(board, control_of(line), csr) {
+        Ok(value) => (Answer::Finished, value),
+        Err(refused) => (refused, 0),
     };
-    writeln!(output, "{} {value:x}", answer::number(answer))
+    writeln!(output, "{} {value:x}", u64::from(answer))
 }
 
+// The record of a write is as before beside a refusal.
 fn write(output: &mut impl Write, board: Board, line: &[u8]) -> io::Result<()> {
     let control = control_of(line);
     let csr = hexadecimal::number(line, 1, 16);
     let value = hexadecimal::number(line, 17, 16);
-    let (lent, by_value) = if is_small(board) {
-        (
-            csr_field::small_written(control, csr, value),
-            csr::small_write(control, csr, value),
-        )
-    } else {
-        (
-            csr_field::written(control, csr, value),
-            csr::write(control, csr, value),
-        )
+    let mut lent = control;
+    let answer = match csr_field::write(board, &mut lent, csr, value) {
+        Ok(()) => Answer::Finished,
+        Err(refused) => refused,
     };
-    print_written(output, lent)?;
-    print_written(output, by_value)
+    print_written(output, answer, lent)?;
+    let (answer, after) = match csr::write(board, control, csr, value) {
+        Ok(after) => (Answer::Finished, after),
+        Err(refused) => (refused, control),
+    };
+    print_written(output, answer, after)
 }
 
 // ---- the register view
@@ -90,13 +88,9 @@ fn view_with(
     first: usize,
     count: usize,
 ) -> io::Result<()> {
-    let mut answer = 0;
-    let part = if is_small(board) {
-        view::small_view_with(file, first, count, &mut answer)
-    } else {
-        view::view_with(file, first, count, &mut answer)
-    };
-    let (start, size) = (start_of(part), part.len());
+    let mut answer = Answer::Finished;
+    let part = view::view_with(board, file, first, count, &mut answer);
+    let (answer, start, size) = (u64::from(answer), start_of(part), part.len());
     writeln!(output, "{answer} {start} {size} {}", checksum(part))
 }
 
@@ -107,23 +101,12 @@ fn view(
     first: usize,
     count: usize,
 ) -> io::Result<()> {
-    let (place, part) = if is_small(board) {
-        (
-            view::small_place(file.len(), first, count),
-            view::small_view(file, first, count),
-        )
-    } else {
-        (
-            view::place(file.len(), first, count),
-            view::view(file, first, count),
-        )
+    let (answer, start, size) = match view::place(board, file.len(), first, count) {
+        Ok(ViewPlace { start, size }) => (Answer::Finished, start, size),
+        Err(refused) => (refused, 0, 0),
     };
-    let ViewPlace {
-        answer,
-        start,
-        size,
-    } = place;
-    let answer = answer::number(answer);
+    let part = view::view(board, file, first, count);
+    let answer = u64::from(answer);
     writeln!(output, "{answer} {start} {size} {}", checksum(part))
 }
 
@@ -137,10 +120,6 @@ fn views(output: &mut impl Write, board: Board, line: &[u8], file: &[u8]) -> io:
 }
 
 // ---- the whole
-
-fn is_small(board: Board) -> bool {
-    board.elen == 32
-}
 
 // The next line; none at the end of the input, where a part of a line is none either.
 fn next_line(input: &mut impl Read) -> Option<[u8; LINE]> {
@@ -159,12 +138,12 @@ fn main(rt: HostRuntime) -> io::Result<()> {
             break;
         };
         match line[0] {
-            b'r' => read(&mut output, Board::base(), &line)?,
-            b'w' => write(&mut output, Board::base(), &line)?,
-            b'v' => views(&mut output, Board::base(), &line, &file)?,
-            b'R' => read(&mut output, Board::small(), &line)?,
-            b'W' => write(&mut output, Board::small(), &line)?,
-            b'V' => views(&mut output, Board::small(), &line, &file)?,
+            b'r' => read(&mut output, Board::BASE, &line)?,
+            b'w' => write(&mut output, Board::BASE, &line)?,
+            b'v' => views(&mut output, Board::BASE, &line, &file)?,
+            b'R' => read(&mut output, Board::SMALL, &line)?,
+            b'W' => write(&mut output, Board::SMALL, &line)?,
+            b'V' => views(&mut output, Board::SMALL, &line, &file)?,
             _ => break,
         }
     }

@@ -14,7 +14,7 @@ pub fn control_at(line: &[u8], at: u32) -> Control
     requires { at ≤ 2 ^ 31 }
     ensures { result ≡ control_at line.now at }
 {
-    Control::of_fields([
+    Control::from([
         hexadecimal::number(line, at, 16),
         hexadecimal::number(line, at + 16, 16),
         hexadecimal::number(line, at + 32, 16),
@@ -40,7 +40,7 @@ fn put_control(text: &mut Text, control: Control)
     requires { text.old.at ≤ 2 ^ 29 }
     ensures { Adds text.old (control_text control) text.new × (text.new.at ≤ text.old.at + 121) }
 {
-    let fields = control.fields();
+    let fields = <[u64; 6]>::from(control);
     text.put_short_hex(fields[0]);
     put_spaced(text, &fields[1..]);
 }

@@ -54,8 +54,8 @@ fn next_bytes<const N: usize>(input: &mut impl Read) -> Option<[u8; N]> {
 fn next_line(input: &mut impl Read) -> Option<Line> {
     let [letter] = next_bytes::<1>(input)?;
     let line = match letter {
-        b'c' => Line::Case(Board::base(), next_bytes(input)?),
-        b's' => Line::Case(Board::small(), next_bytes(input)?),
+        b'c' => Line::Case(Board::BASE, next_bytes(input)?),
+        b's' => Line::Case(Board::SMALL, next_bytes(input)?),
         b'v' => Line::Registers(next_bytes(input)?),
         b'm' => Line::Memory(next_bytes(input)?),
         b'x' => Line::Scalar(next_bytes(input)?),
@@ -93,7 +93,7 @@ struct Told {
     address: u64,
     page: u64,
     right: u8,
-    control: [u64; 6],
+    control: Control,
 }
 
 impl Told {
@@ -105,7 +105,7 @@ impl Told {
             address: 0,
             page: 256,
             right: 0,
-            control: control.fields(),
+            control,
         }
     }
 
@@ -114,12 +114,12 @@ impl Told {
         let place = turned.place;
         let wanted = place.wanted;
         Told {
-            answer: answer::number(turned.answer),
+            answer: u64::from(turned.answer),
             passed: self.passed.wrapping_add(turned.passed),
             address: place.address,
             page: wanted.page,
             right: wanted.right,
-            control: turned.control.fields(),
+            control: turned.control,
         }
     }
 }
@@ -171,13 +171,11 @@ impl Machine {
             rights,
             told,
         } = self;
-        let control = Control::of_fields(told.control);
-        let turned = if board.elen == 32 {
-            let registers = &mut registers[..REGISTERS / 2];
-            turn::small_turn(word, allowance, registers, scalars, memory, rights, control)
-        } else {
-            turn::turn(word, allowance, registers, scalars, memory, rights, control)
-        };
+        let control = told.control;
+        let registers = &mut registers[..32 * board.vlenb as usize];
+        let turned = turn::turn(
+            board, word, allowance, registers, scalars, memory, rights, control,
+        );
         *told = told.with(turned);
     }
 
@@ -185,7 +183,7 @@ impl Machine {
     fn checksum(&self) -> u64 {
         let sum = sum_of(0, &self.registers);
         let sum = sum_of(sum, &self.scalars);
-        let sum = sum_of(sum, &self.told.control);
+        let sum = sum_of(sum, &<[u64; 6]>::from(self.told.control));
         sum_of(sum, &self.memory)
     }
 }
@@ -267,7 +265,7 @@ fn main(rt: HostRuntime) -> io::Result<()> {
     let alloc = rt.alloc();
     let mut input = BufReader::new(alloc, rt.reader())?;
     let mut output = BufWriter::new(alloc, io::writer(&rt))?;
-    let mut case = Case::new(Board::base(), 0, Control::RESET);
+    let mut case = Case::new(Board::BASE, 0, Control::RESET);
     for _ in 0..LINES {
         let Some(line) = next_line(&mut input) else {
             break;

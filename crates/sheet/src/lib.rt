@@ -15,7 +15,7 @@ ghost use Rattle.sheet.specs.Left.{held, Leaves};
 
 use access::Wanted;
 use answer::Answer;
-use control::Control;
+use control::{Board, Control};
 use sheet_read::Words;
 use text::Text;
 
@@ -48,7 +48,7 @@ fn report_wanted(text: &mut Text, answer: Answer, wanted: Wanted)
         | Answer::StoreMisaligned
         | Answer::StoreAccess => {
             text.decimal_line(b"page=", wanted.page);
-            text.decimal_line(b"right=", wanted.right as u64);
+            text.decimal_line(b"right=", u64::from(wanted.right));
         }
         _ => {}
     }
@@ -71,7 +71,7 @@ fn report_turn(text: &mut Text, word: u32, answer: Answer, wanted: Wanted, contr
     ensures { Adds text.old (report word answer wanted control) text.new × (text.new.at ≤ text.old.at + report_bound) }
 {
     text.hex_line(b"word=", 8, word as u64);
-    text.decimal_line(b"answer=", answer::number(answer));
+    text.decimal_line(b"answer=", u64::from(answer));
     report_wanted(text, answer, wanted);
     report_control(text, control);
 }
@@ -85,6 +85,7 @@ fn take_turn(text: &mut Text, machine: &mut Machine, word: u32, allow: u32) -> A
         Leaves p text.old text.new machine.new × ((result ≡ p.answer) × (text.new.at ≤ text.old.at + report_bound)) }
 {
     let turned = turn::turn(
+        Board::BASE,
         word,
         allow,
         &mut machine.registers,

@@ -83,10 +83,10 @@ fn next_line(input: &mut impl Read) -> Option<Line> {
         b'x' => Line::Scalar(next_bytes(input)?),
         b'v' => Line::Registers(next_bytes(input)?),
         b'p' => Line::Rights(next_bytes(input)?),
-        b'.' => Line::Turn(Board::base()),
-        b',' => Line::Turn(Board::small()),
-        b'?' => Line::Check(Board::base()),
-        b'!' => Line::Check(Board::small()),
+        b'.' => Line::Turn(Board::BASE),
+        b',' => Line::Turn(Board::SMALL),
+        b'?' => Line::Check(Board::BASE),
+        b'!' => Line::Check(Board::SMALL),
         _ => return None,
     };
     if matches!(line, Line::Turn(_) | Line::Check(_)) {
@@ -201,10 +201,7 @@ impl Case {
         let memory = &self.memory[..head.memory];
         let rights = &self.rights[..head.rights];
         let Head { word, control, .. } = head;
-        if board.elen == 32 {
-            return access_check::small_check(word, registers, scalars, memory, rights, control);
-        }
-        access_check::check(word, registers, scalars, memory, rights, control)
+        access_check::check(board, word, registers, scalars, memory, rights, control)
     }
 
     // The turn on a board, and what it changed, which is put back but for the scalars.
@@ -248,16 +245,15 @@ fn turned(
         control,
         ..
     } = head;
-    if board.elen == 32 {
-        return turn::small_turn(word, allowance, registers, scalars, memory, rights, control);
-    }
-    turn::turn(word, allowance, registers, scalars, memory, rights, control)
+    turn::turn(
+        board, word, allowance, registers, scalars, memory, rights, control,
+    )
 }
 
 // ---- what is written of a turn and of a check
 
 fn print_turned(output: &mut impl Write, turned: Turned) -> io::Result<()> {
-    let answer = answer::number(turned.answer);
+    let answer = u64::from(turned.answer);
     let passed = turned.passed;
     let address = turned.place.address;
     let Wanted { page, right } = turned.place.wanted;
@@ -303,7 +299,7 @@ fn print_scalars(output: &mut impl Write, scalars: &[u64], before: &[u64]) -> io
 }
 
 fn print_checked(output: &mut impl Write, checked: Checked) -> io::Result<()> {
-    let answer = answer::number(checked.answer);
+    let answer = u64::from(checked.answer);
     let Checked { element, pages, .. } = checked;
     let Wanted { page, right } = checked.wanted;
     writeln!(output, "{answer} {element} {pages} {page} {right}")
