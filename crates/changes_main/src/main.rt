@@ -172,7 +172,8 @@ impl Machine {
             told,
         } = self;
         let control = told.control;
-        let registers = &mut registers[..32 * board.vlenb as usize];
+        let bytes = 32 * board.vlenb as usize;
+        let registers = &mut registers[..bytes];
         let turned = turn::turn(
             board, word, allowance, registers, scalars, memory, rights, control,
         );
