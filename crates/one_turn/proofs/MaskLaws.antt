@@ -11,7 +11,6 @@ use lib.ListN.{length}
 use lib.Dec.{T, ltb, eqb, lit<}
 use borrow.Author.Tests.{lt-ltb, le-ltb}
 use Rattle.width.specs.Width.{flag}
-use Rattle.decode.specs.declared.MaskOp.{MaskOp}
 use Rattle.decode.specs.declared.MaskInstruction.{MaskInstruction}
 use Rattle.layout.specs.Layout.{with_element, Inside}
 use Rattle.layout.proofs.ElementLaws.{apart, length-with_element}
@@ -34,10 +33,6 @@ module _ (size vlenb vl : ℕ) (m : MaskInstruction) (h : Holds size vlenb vl m)
 
   pub vs2-inside : Inside size vlenb m.vs2 1 i
   vs2-inside = bit-inside size vlenb m.vs2 i h.whole h.fits.vs2 (omega (arith, h.within))
-
--- in the arm of the variant v
-pub bit-by : (op v : MaskOp) (i first r : ℕ) → op ≡ v → r ≡ first_bit v i first → r ≡ first_bit op i first
-bit-by op v i first r e p = rw e p
 
 -- ---- the population of the first i
 
