@@ -99,7 +99,9 @@ pub fn compute_element(
 pub fn address(t: Transfer, i: u64, offset: u64) -> u64
     ensures { result ≡ element_address t i offset }
 {
-    t.base.wrapping_add(i.wrapping_mul(t.stride)).wrapping_add(offset)
+    t.base
+        .wrapping_add(i.wrapping_mul(t.stride))
+        .wrapping_add(offset)
 }
 
 // Element i of the group that begins at the register reg, stored to memory from index a on or loaded from there.

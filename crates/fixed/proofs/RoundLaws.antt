@@ -13,6 +13,7 @@ use mir.Val.{Fits, SFits, to_z, of_z, bool_byte}
 use mir.Facts.{to_z-of_z, to_z_pos}
 use borrow.Author.Tests.{eq-eqb, ne_eqb}
 use Rattle.width.specs.Width.{wrap, flag}
+use Rattle.width.proofs.FlagLaws.{byte-is}
 use Rattle.width.proofs.SignedLaws.{wrap-lt, shr-back}
 use Rattle.fixed.specs.declared.Vxrm.{Vxrm}
 use Rattle.fixed.specs.declared.Vxrm.TheVariants.{Rnu, Rne, Rdn, Rod}
@@ -26,10 +27,6 @@ unit-pos u d h = omega (arith, pow_pos d)
 pub none : (rm : Vxrm) (d last lost : ℕ) → d ≡ 0 → 0 ≡ increment rm d last lost
 unfolding increment
 none rm d last lost e = rw e
-
-byte-is : (b : Bool) → bool_byte b ≡ flag b
-byte-is true = refl
-byte-is false = refl
 
 module _ (rm : Vxrm) (d last lost u : ℕ) (some : d ≡ 0 → ⊥) (u-is : u ≡ 2 ^ (d - 1)) where
   positive : increment rm d last lost ≡ increment rm (suc (d - 1)) last lost

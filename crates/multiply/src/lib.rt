@@ -19,13 +19,14 @@ pub fn mul(sew: u64, a: u64, b: u64) -> u64
 }
 
 // vmulh: the high sew bits, both signed.
+#[tactic(auto, using(crate::proofs::ProductLaws::products))]
 pub fn mulh(sew: u64, a: u64, b: u64) -> u64
     requires { Width (2 * sew) × ((a < 2 ^ sew) × (b < 2 ^ sew)) }
     ensures { result ≡ vmulh sew a b }
 {
     let x = width::to_signed(sew, a);
     let y = width::to_signed(sew, b);
-    width::from_signed(sew, (x * y) >> (sew as i64))
+    width::from_signed(sew, (x * y) >> sew)
 }
 
 // vmulhu: the high sew bits, both unsigned.
@@ -37,12 +38,13 @@ pub fn mulhu(sew: u64, a: u64, b: u64) -> u64
 }
 
 // vmulhsu: the high sew bits, a signed and b unsigned.
+#[tactic(auto, using(crate::proofs::ProductLaws::products))]
 pub fn mulhsu(sew: u64, a: u64, b: u64) -> u64
     requires { Width (2 * sew) × ((a < 2 ^ sew) × (b < 2 ^ sew)) }
     ensures { result ≡ vmulhsu sew a b }
 {
     let x = width::to_signed(sew, a);
-    width::from_signed(sew, (x * (b as i64)) >> (sew as i64))
+    width::from_signed(sew, (x * (b as i64)) >> sew)
 }
 
 // ---- 12.11
@@ -62,43 +64,38 @@ pub fn remu(sew: u64, a: u64, b: u64) -> u64
     if b == 0 { a } else { a % b }
 }
 
-// vdiv: rounded toward zero; by 0, all ones. The divisor -1 is apart, since the least i64 by -1 is no i64.
+// vdiv: rounded toward zero; by 0, all ones. The least i64 by -1 is no i64, and wraps.
+#[tactic(auto, using(crate::proofs::DivideLaws::divisions))]
 pub fn div(sew: u64, a: u64, b: u64) -> u64
     requires { Width sew × ((a < 2 ^ sew) × (b < 2 ^ sew)) }
     ensures { result ≡ vdiv sew a b }
 {
-    let m = width::ones(sew);
     if b == 0 {
-        return m;
-    }
-    if b == m {
-        return width::sub(sew, 0, a);
+        return width::ones(sew);
     }
     let x = width::to_signed(sew, a);
     let y = width::to_signed(sew, b);
-    width::from_signed(sew, x / y)
+    width::from_signed(sew, x.wrapping_div(y))
 }
 
 // vrem: what vdiv leaves; by 0, the dividend.
+#[tactic(auto, using(crate::proofs::DivideLaws::divisions))]
 pub fn rem(sew: u64, a: u64, b: u64) -> u64
     requires { Width sew × ((a < 2 ^ sew) × (b < 2 ^ sew)) }
     ensures { result ≡ vrem sew a b }
 {
-    let m = width::ones(sew);
     if b == 0 {
         return a;
     }
-    if b == m {
-        return 0;
-    }
     let x = width::to_signed(sew, a);
     let y = width::to_signed(sew, b);
-    width::from_signed(sew, x % y)
+    width::from_signed(sew, x.wrapping_rem(y))
 }
 
 // ---- 12.12
 
 // vwmul: the product of 2 * sew bits, both signed.
+#[tactic(auto, using(crate::proofs::ProductLaws::products))]
 pub fn wmul(sew: u64, a: u64, b: u64) -> u64
     requires { Width (2 * sew) × ((a < 2 ^ sew) × (b < 2 ^ sew)) }
     ensures { result ≡ vwmul sew a b }
@@ -117,6 +114,7 @@ pub fn wmulu(sew: u64, a: u64, b: u64) -> u64
 }
 
 // vwmulsu: the same, a signed and b unsigned.
+#[tactic(auto, using(crate::proofs::ProductLaws::products))]
 pub fn wmulsu(sew: u64, a: u64, b: u64) -> u64
     requires { Width (2 * sew) × ((a < 2 ^ sew) × (b < 2 ^ sew)) }
     ensures { result ≡ vwmulsu sew a b }
@@ -128,6 +126,7 @@ pub fn wmulsu(sew: u64, a: u64, b: u64) -> u64
 // ---- 12.13
 
 // vmacc: b * a + d, wrapped.
+#[tactic(auto, using(crate::proofs::MultiplyAddLaws::add_is))]
 pub fn macc(sew: u64, a: u64, b: u64, d: u64) -> u64
     requires { Width sew }
     ensures { result ≡ vmacc sew a b d }
@@ -136,6 +135,7 @@ pub fn macc(sew: u64, a: u64, b: u64, d: u64) -> u64
 }
 
 // vnmsac: d - b * a, wrapped.
+#[tactic(auto, using(crate::proofs::MultiplyAddLaws::sub_is))]
 pub fn nmsac(sew: u64, a: u64, b: u64, d: u64) -> u64
     requires { Width sew }
     ensures { result ≡ vnmsac sew a b d }
@@ -144,6 +144,7 @@ pub fn nmsac(sew: u64, a: u64, b: u64, d: u64) -> u64
 }
 
 // vmadd: b * d + a, wrapped.
+#[tactic(auto, using(crate::proofs::MultiplyAddLaws::add_is))]
 pub fn madd(sew: u64, a: u64, b: u64, d: u64) -> u64
     requires { Width sew }
     ensures { result ≡ vmadd sew a b d }
@@ -152,6 +153,7 @@ pub fn madd(sew: u64, a: u64, b: u64, d: u64) -> u64
 }
 
 // vnmsub: a - b * d, wrapped.
+#[tactic(auto, using(crate::proofs::MultiplyAddLaws::sub_is))]
 pub fn nmsub(sew: u64, a: u64, b: u64, d: u64) -> u64
     requires { Width sew }
     ensures { result ≡ vnmsub sew a b d }
@@ -162,6 +164,7 @@ pub fn nmsub(sew: u64, a: u64, b: u64, d: u64) -> u64
 // ---- 12.14
 
 // vwmaccu: b * a + d at 2 * sew bits, both unsigned.
+#[tactic(auto, using(crate::proofs::MultiplyAddLaws::add_is))]
 pub fn wmaccu(sew: u64, a: u64, b: u64, d: u64) -> u64
     requires { Width (2 * sew) }
     ensures { result ≡ vwmaccu sew a b d }

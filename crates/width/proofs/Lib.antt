@@ -3,3 +3,4 @@ pub mod LowBits
 pub mod WrapLaws
 pub mod SignedLaws
 pub mod Bounds
+pub mod FlagLaws
