@@ -16,6 +16,7 @@ ghost use Rattle.sheet.specs.Left.{held, Leaves};
 use access::Wanted;
 use answer::Answer;
 use control::{Board, Control};
+use machine::Turned;
 use sheet_read::Words;
 use text::Text;
 
@@ -24,16 +25,6 @@ const MOST_TURNS: u64 = 129;
 
 // The length of the longest text that a sheet prints, at most.
 pub const SHEET_MAX: usize = 1660000;
-
-// The machine that a sheet runs on.
-#[derive(Drop)]
-pub struct Machine {
-    registers: [u8; 512],
-    scalars: [u64; 32],
-    memory: [u8; 4096],
-    rights: [u8; 256],
-    control: Control,
-}
 
 // ---- the report of a turn
 
@@ -66,83 +57,15 @@ fn report_control(text: &mut Text, control: Control)
 }
 
 // The report of a turn.
-fn report_turn(text: &mut Text, word: u32, answer: Answer, wanted: Wanted, control: Control)
+fn report_turn(text: &mut Text, word: u32, turned: Turned)
     requires { text.old.at ≤ 2 ^ 24 }
-    ensures { Adds text.old (report word answer wanted control) text.new × (text.new.at ≤ text.old.at + report_bound) }
+    ensures { Adds text.old (report word turned.answer turned.place.wanted turned.control) text.new
+        × (text.new.at ≤ text.old.at + report_bound) }
 {
     text.hex_line(b"word=", 8, word as u64);
-    text.decimal_line(b"answer=", u64::from(answer));
-    report_wanted(text, answer, wanted);
-    report_control(text, control);
-}
-
-// ---- the run
-
-// One turn and its report.
-fn take_turn(text: &mut Text, machine: &mut Machine, word: u32, allow: u32) -> Answer
-    requires { text.old.at ≤ 2 ^ 24 }
-    ensures { let p = turned word allow (held machine.old) in
-        Leaves p text.old text.new machine.new × ((result ≡ p.answer) × (text.new.at ≤ text.old.at + report_bound)) }
-{
-    let turned = turn::turn(
-        Board::BASE,
-        word,
-        allow,
-        &mut machine.registers,
-        &mut machine.scalars,
-        &mut machine.memory,
-        &machine.rights,
-        machine.control,
-    );
-    machine.control = turned.control;
-    report_turn(
-        text,
-        word,
-        turned.answer,
-        turned.place.wanted,
-        turned.control,
-    );
-    turned.answer
-}
-
-// One word: turns until it no longer pauses, for which 129 are always enough.
-fn run_word(text: &mut Text, machine: &mut Machine, word: u32, allow: u32) -> Answer
-    requires { text.old.at ≤ 2 ^ 23 }
-    ensures { let p = word_of word allow (held machine.old) in
-        Leaves p text.old text.new machine.new × ((result ≡ p.answer) × (text.new.at ≤ text.old.at + word_bound)) }
-{
-    for _turn in 0..MOST_TURNS {
-        match take_turn(text, machine, word, allow) {
-            Answer::Paused => {}
-            answer => return answer,
-        }
-    }
-    Answer::Paused
-}
-
-// The word whose line begins at an index.
-fn run_line(text: &mut Text, machine: &mut Machine, sheet: &[u8], line: u32, allow: u32) -> Answer
-    requires { (text.old.at ≤ 2 ^ 23) × (line ≤ 2 ^ 16) }
-    ensures { let p = word_of (word_at sheet.now line) allow (held machine.old) in
-        Leaves p text.old text.new machine.new × ((result ≡ p.answer) × (text.new.at ≤ text.old.at + word_bound)) }
-{
-    let word = hexadecimal::number(sheet, line + sheet_read::WORD_FROM, 8) as u32;
-    run_word(text, machine, word, allow)
-}
-
-// The words of a good sheet, until one does not finish.
-fn run_words(text: &mut Text, machine: &mut Machine, sheet: &[u8], words: Words)
-    requires { (text.old.at ≡ 0) × Listed sheet.now words }
-    ensures { Leaves (run_of (words_at sheet.now words.first words.count) words.allow (from (held machine.old))) text.old text.new machine.new
-        × (text.new.at ≤ words_bound) }
-{
-    for k in 0..words.count {
-        let line = words.first + sheet_read::WORD_LENGTH * k;
-        match run_line(text, machine, sheet, line, words.allow) {
-            Answer::Finished => {}
-            _ => return,
-        }
-    }
+    text.decimal_line(b"answer=", u64::from(turned.answer));
+    report_wanted(text, turned.answer, turned.place.wanted);
+    report_control(text, turned.control);
 }
 
 // ---- what stands at the end
@@ -193,16 +116,6 @@ fn print_scalars(text: &mut Text, scalars: &[u64; 32])
     text.hex_line(b"x12=", 16, scalars[12]);
 }
 
-// What stands at the end.
-fn print_final(text: &mut Text, machine: &Machine)
-    requires { text.old.at ≤ 2 ^ 21 }
-    ensures { Adds text.old (final_of machine.now.registers machine.now.scalars) text.new
-        × (text.new.at ≤ text.old.at + final_bound) }
-{
-    print_scalars(text, &machine.scalars);
-    print_registers(text, &machine.registers);
-}
-
 // ---- the machine at first
 
 // Byte a holds a mod 256.
@@ -225,20 +138,105 @@ fn scalars(sheet: &[u8]) -> [u64; 32]
     scalars
 }
 
-// The machine as a sheet sets it up.
-fn set_up(sheet: &[u8]) -> Machine
-    ensures { held result ≡ state_at_first (sheet_of sheet.now) }
-{
-    let mut memory = [0; 4096];
-    count_up(&mut memory);
-    let mut rights = [0; 256];
-    sheet_read::open(sheet, &mut rights);
-    Machine {
-        registers: [0; 512],
-        scalars: scalars(sheet),
-        memory,
-        rights,
-        control: Control::RESET,
+// ---- the machine, and its run
+
+// The machine that a sheet runs on.
+#[derive(Drop)]
+struct Machine {
+    registers: [u8; 512],
+    scalars: [u64; 32],
+    memory: [u8; 4096],
+    rights: [u8; 256],
+    control: Control,
+}
+
+impl Machine {
+    // The machine as a sheet sets it up.
+    fn set_up(sheet: &[u8]) -> Machine
+        ensures { held result ≡ state_at_first (sheet_of sheet.now) }
+    {
+        let mut memory = [0; 4096];
+        count_up(&mut memory);
+        let mut rights = [0; 256];
+        sheet_read::open(sheet, &mut rights);
+        Machine {
+            registers: [0; 512],
+            scalars: scalars(sheet),
+            memory,
+            rights,
+            control: Control::RESET,
+        }
+    }
+
+    // One turn and its report.
+    fn take_turn(&mut self, text: &mut Text, word: u32, allow: u32) -> Answer
+        requires { text.old.at ≤ 2 ^ 24 }
+        ensures { let p = turned word allow (held self.old) in
+            Leaves p text.old text.new self.new × ((result ≡ p.answer) × (text.new.at ≤ text.old.at + report_bound)) }
+    {
+        let turned = turn::turn(
+            Board::BASE,
+            word,
+            allow,
+            &mut self.registers,
+            &mut self.scalars,
+            &mut self.memory,
+            &self.rights,
+            self.control,
+        );
+        self.control = turned.control;
+        report_turn(text, word, turned);
+        turned.answer
+    }
+
+    // One word: turns until it no longer pauses, for which 129 are always enough.
+    fn run_word(&mut self, text: &mut Text, word: u32, allow: u32) -> Answer
+        requires { text.old.at ≤ 2 ^ 23 }
+        ensures { let p = word_of word allow (held self.old) in
+            Leaves p text.old text.new self.new × ((result ≡ p.answer) × (text.new.at ≤ text.old.at + word_bound)) }
+    {
+        for _turn in 0..MOST_TURNS {
+            match self.take_turn(text, word, allow) {
+                Answer::Paused => {}
+                answer => return answer,
+            }
+        }
+        Answer::Paused
+    }
+
+    // The word whose line begins at an index.
+    fn run_line(&mut self, text: &mut Text, sheet: &[u8], line: u32, allow: u32) -> Answer
+        requires { (text.old.at ≤ 2 ^ 23) × (line ≤ 2 ^ 16) }
+        ensures { let p = word_of (word_at sheet.now line) allow (held self.old) in
+            Leaves p text.old text.new self.new × ((result ≡ p.answer) × (text.new.at ≤ text.old.at + word_bound)) }
+    {
+        let word = hexadecimal::number(sheet, line + sheet_read::WORD_FROM, 8) as u32;
+        self.run_word(text, word, allow)
+    }
+
+    // The words of a good sheet, until one does not finish.
+    fn run_words(&mut self, text: &mut Text, sheet: &[u8], words: Words)
+        requires { (text.old.at ≡ 0) × Listed sheet.now words }
+        ensures { Leaves (run_of (words_at sheet.now words.first words.count) words.allow (from (held self.old))) text.old text.new self.new
+            × (text.new.at ≤ words_bound) }
+    {
+        for k in 0..words.count {
+            let line = words.first + sheet_read::WORD_LENGTH * k;
+            match self.run_line(text, sheet, line, words.allow) {
+                Answer::Finished => {}
+                _ => return,
+            }
+        }
+    }
+
+    // What stands at the end.
+    fn print_final(&self, text: &mut Text)
+        requires { text.old.at ≤ 2 ^ 21 }
+        ensures { Adds text.old (final_of self.now.registers self.now.scalars) text.new
+            × (text.new.at ≤ text.old.at + final_bound) }
+    {
+        print_scalars(text, &self.scalars);
+        print_registers(text, &self.registers);
     }
 }
 
@@ -249,9 +247,9 @@ fn print_good(text: &mut Text, sheet: &[u8], words: Words)
     requires { (text.old.at ≡ 0) × Listed sheet.now words }
     ensures { Adds text.old (good_sheet (sheet_of sheet.now)) text.new × (text.new.at ≤ sheet_bound) }
 {
-    let mut machine = set_up(sheet);
-    run_words(text, &mut machine, sheet, words);
-    print_final(text, &machine);
+    let mut machine = Machine::set_up(sheet);
+    machine.run_words(text, sheet, words);
+    machine.print_final(text);
 }
 
 // The two lines of a bad sheet.

@@ -1,5 +1,5 @@
 use Rattle.sheet.proofs.RunLaws.{running_none, running_more, running-stops, running-near, running-last, last-within}
-use Rattle.sheet.proofs.run_words.Goals as goal
+use Rattle.sheet.proofs.Machine.run_words.Goals as goal
 
 pub loop-k-init : goal.loop-k-init
 loop-k-init c = search running_none
