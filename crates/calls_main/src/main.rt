@@ -9,7 +9,7 @@
 use answer::Answer;
 use control::{Board, Control};
 use std::array;
-use std::io::{self, BufReader, BufWriter, Read, Write};
+use std::io::{self, BufReader, BufWriter, Write};
 use view::ViewPlace;
 
 // The bytes of a line, with its newline.
@@ -24,16 +24,10 @@ fn control_of(line: &[u8]) -> Control {
     case_lines::control_at(line, 33)
 }
 
-fn print_control(output: &mut impl Write, control: Control) -> io::Result<()> {
-    let mut text = [0; 121];
-    let end = case_lines::control_text(&mut text, 0, control);
-    output.write_all(&text[..end])
-}
-
 fn print_written(output: &mut impl Write, answer: Answer, control: Control) -> io::Result<()> {
     write!(output, "{} ", u64::from(answer))?;
-    print_control(output, control)?;
-    writeln!(output, "")
+    case_lines::print_control(output, control)?;
+    writeln!(output)
 }
 
 // The value of a read is 0 beside a refusal.
@@ -121,20 +115,13 @@ fn views(output: &mut impl Write, board: Board, line: &[u8], file: &[u8]) -> io:
 
 // ---- the whole
 
-// The next line; none at the end of the input, where a part of a line is none either.
-fn next_line(input: &mut impl Read) -> Option<[u8; LINE]> {
-    let mut line = [0; LINE];
-    input.read_exact(&mut line).ok()?;
-    Some(line)
-}
-
 fn main(rt: HostRuntime) -> io::Result<()> {
     let alloc = rt.alloc();
     let mut input = BufReader::new(alloc, rt.reader())?;
     let mut output = BufWriter::new(alloc, io::writer(&rt))?;
-    let file: [u8; 1024] = array::from_fn(|k| file_byte(k));
+    let file: [u8; 1024] = array::from_fn(file_byte);
     for _ in 0..LINES {
-        let Some(line) = next_line(&mut input) else {
+        let Some(line) = case_lines::next_bytes::<LINE, _>(&mut input) else {
             break;
         };
         match line[0] {

@@ -1,10 +1,12 @@
-// The control record as the programs that run cases read it from a line, and as they write it.
+// How the programs that run cases read lines, and how they read and write the control record.
 
 #![tactic(auto)]
 
 ghost use Rattle.std.specs.Prelude.{◌≡◌, ◌+◌, ◌*◌, ◌≤◌, ◌^◌, length};
 ghost use Rattle.text.specs.Text.{Wrote, Adds};
 ghost use Rattle.case_lines.specs.Lines.{control_at, spaced, control_text};
+ghost use Rattle.std.specs.Prelude.{IfSome, OnOk};
+ghost use Rattle.std.specs.Io.KnownBytes.{Consumes, Appends};
 
 use control::Control;
 use text::Text;
@@ -22,6 +24,24 @@ pub fn control_at(line: &[u8], at: u32) -> Control
         hexadecimal::number(line, at + 64, 16),
         hexadecimal::number(line, at + 80, 16),
     ])
+}
+
+// The next bytes of the input; none where it ends before them, or is not to be read.
+pub fn next_bytes<const N: usize, R: std::io::Read>(input: &mut R) -> Option<[u8; N]>
+    ensures { IfSome result (λ bytes. Consumes (R.remaining input.old) (R.remaining input.new) bytes) }
+{
+    let mut bytes = [0; N];
+    input.read_exact(&mut bytes).ok()?;
+    Some(bytes)
+}
+
+// The control record, as `control_text` has it, written.
+pub fn print_control<W: std::io::Write>(output: &mut W, control: Control) -> std::io::Result<()>
+    ensures { OnOk result (Appends (W.contents output.old) (W.contents output.new) (control_text control)) }
+{
+    let mut text = [0; 121];
+    let end = control_text(&mut text, 0, control);
+    output.write_all(&text[..end])
 }
 
 // Each number in decimal, after a space.

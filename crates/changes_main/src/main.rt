@@ -9,6 +9,7 @@
 
 #![tactic(auto)]
 
+use case_lines::next_bytes;
 use control::{Board, Control};
 use machine::Turned;
 use std::io::{self, BufReader, BufWriter, Read, Write};
@@ -43,16 +44,9 @@ enum Line {
     End,
 }
 
-// The next bytes; none where the input ends before them.
-fn next_bytes<const N: usize>(input: &mut impl Read) -> Option<[u8; N]> {
-    let mut bytes = [0; N];
-    input.read_exact(&mut bytes).ok()?;
-    Some(bytes)
-}
-
 // The next line; none at the end of the input, in a line or before one, and where a letter is none of these.
 fn next_line(input: &mut impl Read) -> Option<Line> {
-    let [letter] = next_bytes::<1>(input)?;
+    let [letter]: [u8; 1] = next_bytes(input)?;
     let line = match letter {
         b'c' => Line::Case(Board::BASE, next_bytes(input)?),
         b's' => Line::Case(Board::SMALL, next_bytes(input)?),
@@ -68,7 +62,7 @@ fn next_line(input: &mut impl Read) -> Option<Line> {
     };
     if matches!(line, Line::UncutTurn | Line::End) {
         // the last line may lack its newline
-        let _ = next_bytes::<1>(input);
+        let _ = next_bytes::<1, _>(input);
     }
     Some(line)
 }

@@ -9,7 +9,7 @@ ghost use Rattle.operation.specs.Shape.{eew_of};
 use decode::Instruction;
 use fixed::{Element, Vxrm};
 use operation::{Op, Size};
-use std::io::{self, BufReader, BufWriter, Read, Write};
+use std::io::{self, BufReader, BufWriter, Write};
 
 // The bytes of a case, with its newline.
 const LINE: usize = 67;
@@ -51,13 +51,6 @@ fn outcome(line: &[u8]) -> Option<Element> {
     }
 }
 
-// The next case; none at the end of the input, where a part of a case is none either.
-fn next_case(input: &mut impl Read) -> Option<[u8; LINE]> {
-    let mut line = [0; LINE];
-    input.read_exact(&mut line).ok()?;
-    Some(line)
-}
-
 fn print(output: &mut impl Write, outcome: Option<Element>) -> io::Result<()> {
     match outcome {
         Some(Element { value, saturates }) => {
@@ -72,7 +65,7 @@ fn main(rt: HostRuntime) -> io::Result<()> {
     let mut input = BufReader::new(alloc, rt.reader())?;
     let mut output = BufWriter::new(alloc, io::writer(&rt))?;
     for _ in 0..CASES {
-        let Some(line) = next_case(&mut input) else {
+        let Some(line) = case_lines::next_bytes::<LINE, _>(&mut input) else {
             break;
         };
         print(&mut output, outcome(&line))?;

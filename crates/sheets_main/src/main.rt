@@ -49,10 +49,9 @@ fn run_sheet(alloc: Global, sheet: &[u8], output: &mut impl Write) -> io::Result
 
 // The bytes of the next sheet, as far as the input has them; none where there is no length, or it is above the room.
 fn next_sheet(alloc: Global, input: &mut impl Read) -> io::Result<Option<Vec<u8>>> {
-    let mut head = [0; 8];
-    if input.read_exact(&mut head).is_err() {
+    let Some(head) = case_lines::next_bytes::<8, _>(input) else {
         return Ok(None);
-    }
+    };
     let size = hexadecimal::number(&head, 0, 8);
     if SHEET_ROOM < size {
         return Ok(None);

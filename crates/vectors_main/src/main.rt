@@ -11,6 +11,7 @@ ghost use Rattle.std.specs.Prelude.{◌≤◌};
 ghost use Rattle.vectors_main.specs.declared.TheConstants.{REGISTERS, SCALARS, MEMORY, RIGHTS};
 
 use access::Wanted;
+use case_lines::next_bytes;
 use control::{Board, Control};
 use machine::Turned;
 use std::array;
@@ -68,16 +69,9 @@ enum Line {
     Check(Board),
 }
 
-// The next bytes; none where the input ends before them.
-fn next_bytes<const N: usize>(input: &mut impl Read) -> Option<[u8; N]> {
-    let mut bytes = [0; N];
-    input.read_exact(&mut bytes).ok()?;
-    Some(bytes)
-}
-
 // The next line; none at the end of the input, in a line or before one, and where a letter is none of these.
 fn next_line(input: &mut impl Read) -> Option<Line> {
-    let [letter] = next_bytes::<1>(input)?;
+    let [letter]: [u8; 1] = next_bytes(input)?;
     let line = match letter {
         b'c' => Line::Case(next_bytes(input)?),
         b'x' => Line::Scalar(next_bytes(input)?),
@@ -91,7 +85,7 @@ fn next_line(input: &mut impl Read) -> Option<Line> {
     };
     if matches!(line, Line::Turn(_) | Line::Check(_)) {
         // the last line may lack its newline
-        let _ = next_bytes::<1>(input);
+        let _ = next_bytes::<1, _>(input);
     }
     Some(line)
 }
@@ -142,9 +136,9 @@ impl Case {
     fn new() -> Case {
         Case {
             head: Head::of_line(b""),
-            registers: array::from_fn(|k| register_byte(k)),
-            scalars: array::from_fn(|k| scalar_at(k)),
-            memory: array::from_fn(|k| memory_byte(k)),
+            registers: array::from_fn(register_byte),
+            scalars: array::from_fn(scalar_at),
+            memory: array::from_fn(memory_byte),
             rights: [2; RIGHTS],
         }
     }
@@ -224,10 +218,11 @@ impl Case {
             &rights[..head.rights],
         );
         print_turned(output, turned)?;
+        // what is not lent does not change; only of memory is it worth leaving out
         print_bytes(output, "v", registers, &registers_before)?;
         print_scalars(output, scalars, &scalars_before)?;
         print_bytes(output, "m", memory, &blank.memory[..head.memory])?;
-        writeln!(output, "")
+        writeln!(output)
     }
 }
 
@@ -258,13 +253,7 @@ fn print_turned(output: &mut impl Write, turned: Turned) -> io::Result<()> {
     let address = turned.place.address;
     let Wanted { page, right } = turned.place.wanted;
     write!(output, "{answer} {passed} {address:x} {page} {right} ")?;
-    print_control(output, turned.control)
-}
-
-fn print_control(output: &mut impl Write, control: Control) -> io::Result<()> {
-    let mut text = [0; 121];
-    let end = case_lines::control_text(&mut text, 0, control);
-    output.write_all(&text[..end])
+    case_lines::print_control(output, turned.control)
 }
 
 // The changed bytes, and the index of the first of those that follow one another. They are as before then.
