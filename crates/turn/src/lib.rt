@@ -36,7 +36,8 @@ fn finished(control: Control) -> Turned
     answered(Answer::Finished, control.dirtied())
 }
 
-// Every word, on a board: refusals 32 to 36, then 2, then what its plan says.
+// Every word, on a board: refusals 32 to 36, then 2, then what its plan says. No Result is made of the first two, here and in access_check:
+// `Plan::Illegal` would still be matched, beside `Err`.
 fn turn_on(
     board: Board,
     word: u32,
