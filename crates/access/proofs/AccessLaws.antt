@@ -1,7 +1,6 @@
 -- The access test by its outcomes; the loop over the fields of a segment.
 use Rattle.std.proofs.Common.{◌≡◌, ℕ, zero, suc, ◌+◌, ◌-◌, ◌*◌, ◌/◌, ◌%◌, ◌^◌, ◌<◌, ◌≤◌, Bool, true, false, not, T, eqb, leb, List, get_or, sym, refl, ap, ◌∙◌, mod-eq_of_lt, add-one, arith, w64, Fits, eq-eqb, eqb-true, le-leb, leb-false, leb-true}
 use Rattle.std.specs.Prelude.{Result, Ok, Err, ⊤, IsErrAnd}
-use lib.Bits.{bit_and, and_mask}
 use borrow.Author.Tests.{eqb-false, lt-leb, not-true, not-false}
 use Rattle.laws.proofs.Chain.{either}
 use Rattle.layout.specs.Layout.{byte_size}
@@ -95,12 +94,6 @@ module _ (rights : List ℕ) (memory : ℕ) (store : Bool) (a n : ℕ) where
 
       pub granted : k ≤ get_or rights (a / 256) 0 → Ok tt ≡ access_of rights memory store a n
       granted l = sym (facts-granted (record { aligned = e; inside = omega arith; right = omega (arith, g, l) }))
-
--- the bits below a power of 2
-pub size-mask : (a n : ℕ) → T (byte_size n) → eqb (bit_and a (n - 1)) 0 ≡ eqb (a % n) 0
-size-mask a n t =
-    ap (λ (x : ℕ). eqb x 0)
-    (size-elim (λ k. bit_and a (k - 1) ≡ a % k) (and_mask a 0) (and_mask a 1) (and_mask a 2) (and_mask a 3) n t)
 
 -- ---- fields
 

@@ -75,8 +75,7 @@ fn elements(
         → Tested (active_of board.vlenb registers.now e.masked) rights.now memory t vstart
         (e.end - vstart) result }
 {
-    let action = e.action;
-    match action {
+    match e.action {
         Action::Compute(_) => nothing_tested(Answer::Illegal),
         Action::Permute(_) => nothing_tested(Answer::Illegal),
         Action::Transfer(t) => unit_stride::tested(

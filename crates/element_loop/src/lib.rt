@@ -52,9 +52,7 @@ fn trapped(fault: Fault, passed: u64, c: Control, vstart: u64, vxsat: u64) -> Tu
       control = dirtied (with_vxsat (with_vstart c vstart) vxsat);
     } }
 {
-    let answer = fault.answer;
-    let place = fault.place;
-    ended(answer, passed, place, c, vstart, vxsat)
+    ended(fault.answer, passed, fault.place, c, vstart, vxsat)
 }
 
 // vxsat after an element that saturates or not.
@@ -199,8 +197,7 @@ pub fn elements(
         ≡ plan_turn board (P.Elements e) allowance
         (given registers.old scalars.now memory.old rights.now control) }
 {
-    let action = e.action;
-    match action {
+    match e.action {
         Action::Compute(operation) => upward(
             board, registers, scalars, memory, rights, control, allowance, e, operation,
         ),

@@ -56,19 +56,12 @@ fn compute(registers: &mut [u8], vlenb: usize, e: Elementwise, k: Compute, i: us
     ensures { (memory x : List ℕ) (c : Control) → Did vlenb (computing vlenb registers.old e k i)
         (core_at registers.old memory x c) (Ok tt) (core_at registers.new memory x (saturating result c)) }
 {
-    let vs2 = e.vs2;
-    let vs1 = e.vs1;
-    let vd = e.vd;
-    let v0 = e.v0;
-    let dest = e.dest;
-    let op = k.op;
-    let vxrm = k.vxrm;
-    let a = value(registers, vlenb, vs2, i);
-    let b = value(registers, vlenb, vs1, i);
-    let d = value(registers, vlenb, vd, i);
-    let c = value(registers, vlenb, v0, i);
-    let r = alu::element(op, k.sew, vxrm, a, b, d, c);
-    layout::write_element(registers, vlenb, dest.reg, dest.eew, i, r.value);
+    let a = value(registers, vlenb, e.vs2, i);
+    let b = value(registers, vlenb, e.vs1, i);
+    let d = value(registers, vlenb, e.vd, i);
+    let c = value(registers, vlenb, e.v0, i);
+    let r = alu::element(k.op, k.sew, k.vxrm, a, b, d, c);
+    layout::write_element(registers, vlenb, e.dest.reg, e.dest.eew, i, r.value);
     r.saturates
 }
 
@@ -206,13 +199,11 @@ pub fn transfer_element(
         (core_at registers.old memory.old x c) result (core_at registers.new memory.new x c) }
 {
     let vlenb = board.vlenb as usize;
-    let vs2 = e.vs2;
-    let dest = e.dest;
     if !active(registers, vlenb, e.masked, i) {
         return Ok(());
     }
-    let a = address(t, i as u64, value(registers, vlenb, vs2, i));
+    let a = address(t, i as u64, value(registers, vlenb, e.vs2, i));
     transfer(
-        registers, memory, rights, vlenb, t.store, dest, t.bytes, i, a,
+        registers, memory, rights, vlenb, t.store, e.dest, t.bytes, i, a,
     )
 }

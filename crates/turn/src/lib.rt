@@ -36,7 +36,8 @@ fn finished(control: Control) -> Turned
 }
 
 // One turn of a word on a board, of at most `allowance` elements: refusals 32 to 36, then 2, then what its plan says. Answer and counts are
-// returned, the rest of what it leaves stands in the lent parts.
+// returned, the rest of what it leaves stands in the lent parts. No Result is made of refusal and 2, here and in access_check:
+// `Plan::Illegal` would still be matched, beside `Err`.
 pub fn turn(
     board: Board,
     word: u32,
