@@ -46,11 +46,12 @@ source_of vlenb (R.Constant x) = S.Scalar x
 source_of vlenb (R.Element g) = S.Elements (vlenb * g.reg)
 source_of vlenb (R.Bit reg) = S.Elements (vlenb * reg)
 
--- the element of n bytes that lies so many bytes from the first, which lies inside a file of so many bytes; or the scalar
+-- of the second operand: the element of n bytes that lies so many bytes from its first, or the scalar in its place
 abbrev pub second_at : List ℕ → Source → ℕ → ℕ → ℕ
 second_at file (S.Scalar x) n at = x
 second_at file (S.Elements vs1) n at = bytes_at file (vs1 + at) n
 
+-- such an element lies inside a file of so many bytes
 abbrev pub SourceInside : ℕ → Source → ℕ → ℕ → Type 0
 SourceInside size (S.Scalar x) n at = Unit {0}
 SourceInside size (S.Elements vs1) n at = vs1 + at + n ≤ size
@@ -63,7 +64,7 @@ module _ (s : Stretch) (op : Op) (n : ℕ) where
   lane_of file i =
       element_of (8 * n) Rnu (bytes_at file (s.vs2 + i * n) n) (second_at file s.vs1 n (i * n)) (bytes_at file (s.vd + i * n) n) 0 op
 
-  -- these say what a plan does
+  -- stretch, operation and size say what a plan does
   pub record Described (vlenb : ℕ) (e : Elementwise) : Type 0 where
     pub compute : Compute
     pub action : e.action ≡ A.Compute compute
@@ -75,7 +76,7 @@ module _ (s : Stretch) (op : Op) (n : ℕ) where
         (value_of vlenb file e.vd i) (value_of vlenb file e.v0 i) compute.op
         ≡ lane_of file i
 
-  -- so many elements of every plan of which they say it were carried out
+  -- so many elements of every plan of which they say so were carried out
   pub record Swept (count : ℕ) (file file' : List ℕ) : Type 0 where
     pub ran : (b : Board) (e : Elementwise) → Described b.vlenb e → (rights memory scalars : List ℕ) (c : Control)
         → Ran b rights e s.from (core_at file memory scalars c) count (core_at file' memory scalars c)
