@@ -31,7 +31,8 @@ each_of f g none more zero = sym none
 each_of f g none more (suc n) = all_more f 0 n ∙ (rw (zero-add, each_of f g none more n) (sym (more n)))
 
 -- the bytes that pass a test
-pub each_at : (test : ℕ → Bool) (s : List ℕ) (at n : ℕ) → list_all (λ i. test (get_or s (at + i) 0)) (range_with_len 0 n) ≡ all_at test s at n
+pub each_at : (test : ℕ → Bool) (s : List ℕ) (at n : ℕ)
+    → list_all (λ i. test (get_or s (at + i) 0)) (range_with_len 0 n) ≡ all_at test s at n
 unfolding all_at
 each_at test s at = each_of (λ i. test (get_or s (at + i) 0)) (all_at test s at) refl (λ n. refl)
 

@@ -3,15 +3,14 @@ use Prim.Native.Nat.{ℕ, zero, suc, ◌+◌, ◌*◌, ◌%◌, ◌^◌, ◌≤�
 use mathlib.Core.Path.{◌≡◌, refl, sym, subst, ◌∙◌}
 use mathlib.Core.List.{List, [], ◌∷◌, ◌++◌, append-nil}
 use mathlib.Core.Bool.{true, false, ◌&&◌}
-use mathlib.Core.Logic.{◌⊎◌, inl, inr}
+use mathlib.Core.Logic.{◌⊎◌}
 use lib.ListN.{length, set, drop, length-append, drop_of_length-le, replicate, length-replicate}
 use lib.Dec.{leb, eqb}
 use borrow.Author.Tests.{eq-eqb, ne_eqb, le-leb, lt-leb}
 use native.Mathlib.Numerals.{add-one}
 use native.Mathlib.Omega.{arith}
 use Rattle.answer.specs.declared.Answer.{Answer}
-use Rattle.answer.specs.declared.Answer.TheVariants.{Finished, Paused, Illegal, LoadMisaligned, LoadAccess, StoreMisaligned, StoreAccess}
-use Rattle.answer.specs.declared.Answer.TheVariants.{BadRegisters, BadScalars, BadMemory, BadRights, BadControl, NoGroup}
+use Rattle.answer.specs.declared.Answer.TheVariants.{LoadMisaligned, LoadAccess, StoreMisaligned, StoreAccess}
 use Rattle.answer.specs.Answer.{number_of}
 use Rattle.access.specs.declared.Wanted.{Wanted}
 use Rattle.control.specs.declared.Control.{Control}
@@ -47,27 +46,16 @@ abbrev Trap : Answer → Type 0
 Trap a = (a ≡ LoadMisaligned) ⊎ ((a ≡ LoadAccess) ⊎ ((a ≡ StoreMisaligned) ⊎ (a ≡ StoreAccess)))
 
 trap-is : (a : Answer) → Trap a → (leb 4 (number_of a) && leb (number_of a) 7) ≡ true
-trap-is a (inl e) = rw e
-trap-is a (inr (inl e)) = rw e
-trap-is a (inr (inr (inl e))) = rw e
-trap-is a (inr (inr (inr e))) = rw e
+trap-is a h = grind arith
+
+no-trap : (a : Answer) → (a ≡ LoadMisaligned → ⊥) → (a ≡ LoadAccess → ⊥) → (a ≡ StoreMisaligned → ⊥) → (a ≡ StoreAccess → ⊥)
+    → (leb 4 (number_of a) && leb (number_of a) 7) ≡ false
+no-trap a h i j k = grind arith
 
 pub no_lines : (t : Text) (a : Answer) (w : Wanted) → (a ≡ LoadMisaligned → ⊥) → (a ≡ LoadAccess → ⊥) → (a ≡ StoreMisaligned → ⊥)
     → (a ≡ StoreAccess → ⊥) → Adds t (report_wanted (number_of a) w) t
 unfolding report_wanted
-no_lines t Finished w h i j k = nothing t
-no_lines t Paused w h i j k = nothing t
-no_lines t Illegal w h i j k = nothing t
-no_lines t LoadMisaligned w h i j k = absurd (h refl)
-no_lines t LoadAccess w h i j k = absurd (i refl)
-no_lines t StoreMisaligned w h i j k = absurd (j refl)
-no_lines t StoreAccess w h i j k = absurd (k refl)
-no_lines t BadRegisters w h i j k = nothing t
-no_lines t BadScalars w h i j k = nothing t
-no_lines t BadMemory w h i j k = nothing t
-no_lines t BadRights w h i j k = nothing t
-no_lines t BadControl w h i j k = nothing t
-no_lines t NoGroup w h i j k = nothing t
+no_lines t a w h i j k = rw (no-trap a h i j k) (nothing t)
 
 pub wanted-wrote : {t t1 t2 : Text} (a : Answer) (w : Wanted) → Trap a
     → Adds t (line (ascii "page=") (decimal w.page)) t1 → Adds t1 (line (ascii "right=") (decimal w.right)) t2
@@ -169,13 +157,15 @@ pub good-wrote : {t t1 t2 : Text} (s : List ℕ) (w : Words) (m m1 : Machine) �
 unfolding sheet_of
 good-wrote {t} {t1} {t2} s w m m1 l e r f =
     let p : Progress = run_of (words_at s w.first w.count) w.allow (from (held m)) in
-    let g : Adds t1 (final_of p.state.registers p.state.scalars) t2 = subst (λ (x : State). Adds t1 (final_of x.registers x.scalars) t2) r.state f in
+    let g : Adds t1 (final_of p.state.registers p.state.scalars) t2 =
+    subst (λ (x : State). Adds t1 (final_of x.registers x.scalars) t2) r.state f in
     let u : Adds t (with_final p) t2 = both r.wrote g in
     rw (l.count, l.first, l.allow) at
     (subst (λ (x : State). Adds t (with_final (run_of (words_at s w.first w.count) w.allow (from x))) t2) e u)
 
 -- the parts that the machine is made of
-pub set-up : (s registers scalars memory closed rights : List ℕ) (size : ℕ) → registers ≡ replicate 512 0 → scalars ≡ scalars_of (sheet_of s)
+pub set-up : (s registers scalars memory closed rights : List ℕ) (size : ℕ)
+    → registers ≡ replicate 512 0 → scalars ≡ scalars_of (sheet_of s)
     → memory ≡ memory_to size → size ≡ 4096 → closed ≡ replicate 256 0 → rights ≡ rights_at s marks_from 16 ++ drop 16 closed
     → held (record { registers = registers; scalars = scalars; memory = memory; rights = rights; control = reset })
     ≡ state_at_first (sheet_of s)

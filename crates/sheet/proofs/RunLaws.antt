@@ -7,8 +7,7 @@ use native.Mathlib.Nat.{add-zero}
 use native.Mathlib.Omega.{arith}
 use borrow.Author.Tests.{ne_eqb}
 use Rattle.answer.specs.declared.Answer.{Answer}
-use Rattle.answer.specs.declared.Answer.TheVariants.{Finished, Paused, Illegal, LoadMisaligned, LoadAccess, StoreMisaligned, StoreAccess}
-use Rattle.answer.specs.declared.Answer.TheVariants.{BadRegisters, BadScalars, BadMemory, BadRights, BadControl, NoGroup}
+use Rattle.answer.specs.declared.Answer.TheVariants.{Finished, Paused}
 use Rattle.answer.specs.Answer.{number_of}
 use Rattle.machine.specs.State.{State}
 use Rattle.machine.specs.declared.Turned.{Turned}
@@ -29,34 +28,10 @@ use Rattle.sheet.specs.Left.{held, Leaves}
 -- ---- answers by their numbers
 
 pub paused-is : (a : Answer) → number_of a ≡ 1 → a ≡ Paused
-paused-is Paused h = refl
-paused-is Finished h = absurd (omega arith)
-paused-is Illegal h = absurd (omega arith)
-paused-is LoadMisaligned h = absurd (omega arith)
-paused-is LoadAccess h = absurd (omega arith)
-paused-is StoreMisaligned h = absurd (omega arith)
-paused-is StoreAccess h = absurd (omega arith)
-paused-is BadRegisters h = absurd (omega arith)
-paused-is BadScalars h = absurd (omega arith)
-paused-is BadMemory h = absurd (omega arith)
-paused-is BadRights h = absurd (omega arith)
-paused-is BadControl h = absurd (omega arith)
-paused-is NoGroup h = absurd (omega arith)
+paused-is a h = grind arith
 
 finished-is : (a : Answer) → number_of a ≡ 0 → a ≡ Finished
-finished-is Finished h = refl
-finished-is Paused h = absurd (omega arith)
-finished-is Illegal h = absurd (omega arith)
-finished-is LoadMisaligned h = absurd (omega arith)
-finished-is LoadAccess h = absurd (omega arith)
-finished-is StoreMisaligned h = absurd (omega arith)
-finished-is StoreAccess h = absurd (omega arith)
-finished-is BadRegisters h = absurd (omega arith)
-finished-is BadScalars h = absurd (omega arith)
-finished-is BadMemory h = absurd (omega arith)
-finished-is BadRights h = absurd (omega arith)
-finished-is BadControl h = absurd (omega arith)
-finished-is NoGroup h = absurd (omega arith)
+finished-is a h = grind arith
 
 not-paused : (a : Answer) → (a ≡ Paused → ⊥) → is_paused a ≡ false
 not-paused a h = ne_eqb (number_of a) 1 (λ e. h (paused-is a e))
@@ -125,7 +100,8 @@ module _ (word allow : ℕ) (first : State) (before : Text) (n : ℕ) (now : Tex
             text = text;
             wrote = both t.wrote l.wrote;
             rest = next-turn h
-                ∙ ap (more_turns (most_turns - (n + 1)) word allow) (λ i. record { text = text; answer = (sym q ∙ p) i; state = sym l.state i });
+                ∙ ap (more_turns (most_turns - (n + 1)) word allow)
+                (λ i. record { text = text; answer = (sym q ∙ p) i; state = sym l.state i });
             near = omega (arith, t.near);
           }
 
@@ -227,7 +203,8 @@ module _ (sheet : List ℕ) (w : Words) (start : State) (before : Text) (k : ℕ
     pub running-stops : (a ≡ Finished → ⊥) → Leaves whole before next m'
     unfolding done
     running-stops d =
-        left_by (word-on h ∙ unfinished others w.allow _ (not-finished _ (λ e. d (q ∙ e)))) (record { wrote = both g.wrote l.wrote; state = l.state })
+        left_by (word-on h ∙ unfinished others w.allow _ (not-finished _ (λ e. d (q ∙ e))))
+        (record { wrote = both g.wrote l.wrote; state = l.state })
 
     pub running-near : before.at ≡ 0 → Listed sheet w → next.at ≤ words_bound
     running-near z listed = omega (arith, g.near, listed.most.1.1)

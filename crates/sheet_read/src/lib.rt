@@ -53,7 +53,7 @@ const END_LENGTH: u32 = 6;
 
 // ---- lines
 
-// Whether the key stands at an index.
+// Whether the key stands at an index. Byte by byte, since past the end the definition reads 0, as `starts_with` does not.
 fn begins_with(s: &[u8], at: u32, key: &[u8]) -> bool
     ensures { result ≡ begins s.now at key.now }
 {

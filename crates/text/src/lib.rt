@@ -26,14 +26,13 @@ fn hex_digit(d: u64) -> u8
 }
 
 impl<'a> Text<'a> {
-    // A byte.
+    // A byte. By its index: of a slice that is written through `get_mut` the check keeps the length alone.
     fn put_byte(&mut self, byte: u8)
         requires { self.old.at ≤ 2 ^ 32 }
         ensures { Adds self.old (byte ∷ []) self.new }
     {
-        let out = &mut *self.out;
-        if self.at < out.len() {
-            out[self.at] = byte;
+        if self.at < self.out.len() {
+            self.out[self.at] = byte;
         }
         self.at += 1;
     }
