@@ -3,7 +3,7 @@
 
 #![tactic(auto)]
 
-ghost use Rattle.std.specs.Prelude.{◌≡◌, ◌<◌, cond, eqb, Some, None};
+ghost use Rattle.std.specs.Prelude.{◌≡◌, cond, eqb, Some, None};
 ghost use Rattle.decode.specs.declared.Entry.TheVariants.{MergeOrMove};
 ghost use Rattle.decode.specs.declared.Instruction.TheVariants as Ins;
 ghost use Rattle.decode.specs.Fields.{accessing, sized};
@@ -636,7 +636,6 @@ fn pack_of(op: PackOp, word: u32) -> Instruction
 }
 
 fn move_by(op: ScalarMoveOp, vector: u32, scalar: u32) -> Instruction
-    requires { (vector < 32) × (scalar < 32) }
     ensures { result ≡ Ins.ScalarMove (record { op = op; vector = vector; scalar = scalar }) }
 {
     Instruction::ScalarMove(ScalarMoveInstruction {

@@ -1,5 +1,6 @@
 // The element operations of section 13 of document 000, with the rounding and saturation of sections 4.8 and 4.9. `a` is the element of
-// vs2, `b` that of vs1 (or the scalar or immediate in its place), `rm` the rounding mode.
+// vs2, `b` that of vs1 (or the scalar or immediate in its place), `rm` the rounding mode. Each is an operation that the standard names
+// and alu calls, as in integer.
 
 #![tactic(auto)]
 

@@ -9,7 +9,7 @@ pub fn ones(sew: u64) -> u64
     requires { Width sew }
     ensures { result + 1 ≡ 2 ^ sew }
 {
-    0xffff_ffff_ffff_ffff >> (64 - sew)
+    u64::MAX >> (64 - sew)
 }
 
 // The low sew bits of x.
