@@ -1,6 +1,6 @@
 -- A unit-stride access under a mask, one element after the other: what the loop keeps, and how each way out meets the contract.
 use Rattle.std.specs.Prelude.{Result, Ok, Err, ⊤}
-use Prim.Native.Nat.{ℕ, suc, ◌+◌, ◌/◌, ◌^◌, ◌≤◌, ◌<◌}
+use Prim.Native.Nat.{ℕ, suc, ◌+◌, ◌/◌, ◌≤◌, ◌<◌}
 use mathlib.Core.Path.{◌≡◌, refl, sym, ◌∙◌}
 use mathlib.Core.Bool.{Bool, true, false, ◌&&◌, cond}
 use mathlib.Core.List.{List}
@@ -8,10 +8,8 @@ use native.Mathlib.Omega.{arith}
 use native.Mathlib.Numerals.{add-one}
 use native.Mathlib.Nat.{add-zero}
 use native.Mathlib.Decide.{dec_lt}
-use mir.Syntax.{w64}
-use mir.Val.{Fits}
 use lib.Dec.{leb}
-use borrow.Author.Tests.{leb-true, leb-false, le-leb, lt-leb}
+use borrow.Author.Tests.{leb-true, leb-false}
 use Rattle.width.specs.Width.{flag}
 use Rattle.answer.specs.declared.Answer.TheVariants.{Finished}
 use Rattle.layout.specs.Layout.{Inside}
@@ -27,19 +25,6 @@ use Rattle.unit_stride.proofs.PackedLaws.{later}
 use Rattle.unit_stride.proofs.TestedLaws.{finishes, faults, granted-inside}
 
 -- ---- one page more, or not
-
-module _ (c : Tally) (tested : Bool) (page : ℕ) where
-  pub tally-new : tested ≡ true → c.next ≤ page → record { pages = c.pages + 1; next = page + 1 } ≡ tallied_of c tested page
-  tally-new e l = rw (e, le-leb c.next page l)
-
-  pub tally-seen : tested ≡ true → page < c.next → c ≡ tallied_of c tested page
-  tally-seen e l = rw (e, lt-leb c.next page l)
-
-  pub tally-untested : tested ≡ false → c ≡ tallied_of c tested page
-  tally-untested e = rw e
-
-pub page-few : (a : ℕ) → Fits w64 a → a / 256 ≤ 2 ^ 56
-page-few a f = omega (arith, f.fits)
 
 pub mask_at : (size vlenb v n k : ℕ) → MaskInside size vlenb v n → k < n → Inside size vlenb 0 1 (v + k)
 mask_at size vlenb v n k h l = h k l
@@ -156,12 +141,6 @@ module _ (active : ℕ → Bool) (rights : List ℕ) (memory : ℕ) (t : Transfe
             → Tested active rights memory t v n
             (record { answer = f.answer; element = v + k; pages = c'.pages; wanted = f.place.wanted })
         walking-fault f z = rw the-tally (element-faulted f (the-test ∙ z))
-
-    pub index-fits : (k : ℕ) → k < n → Fits w64 (v + k)
-    index-fits k l = record { fits = omega (arith, g.few) }
-
-    pub tally-few : (k : ℕ) (c : Tally) → Walking k c → c.pages ≤ 2 ^ 32
-    tally-few k c w = omega (arith, w.counted.few, w.within, g.few)
 
   pub walking-done : (k : ℕ) (c : Tally) → Walking k c → n ≤ k
       → Tested active rights memory t v n (record { answer = Finished; element = 0; pages = c.pages; wanted = nothing_wanted })

@@ -5,9 +5,8 @@ use mathlib.Core.Bool.{true, false}
 use mathlib.Core.List.{List}
 use native.Mathlib.Omega.{arith}
 use native.Mathlib.Nat.{mod-eq_of_lt, mul-le-mul_right}
-use native.Mathlib.Decide.{dec_lt}
-use lib.Dec.{T, ltb, leb, eqb}
-use borrow.Author.Tests.{leb-true, eq-eqb, le-leb, lt-leb, lt-ltb, le-ltb}
+use lib.Dec.{T, eqb}
+use borrow.Author.Tests.{leb-true, eq-eqb, le-leb, lt-leb}
 use Rattle.laws.proofs.Apart.{both_right}
 use Rattle.layout.specs.Layout.{byte_size}
 use Rattle.layout.proofs.WidthLaws.{size-elim}
@@ -27,14 +26,6 @@ module _ (memory a n : ℕ) where
 
   pub untested-outside : a % n ≡ 0 → memory < a + n → page_tested memory a n ≡ false
   untested-outside e l = rw (eq-eqb (a % n) 0 e, lt-leb (a + n) memory l)
-
-  -- by the last byte
-  pub last-inside : a % n ≡ 0 → 1 ≤ n → ltb (a + (n - 1)) memory ≡ page_tested memory a n
-  last-inside e l = rw (eq-eqb (a % n) 0 e) (go (dec_lt (a + (n - 1)) memory))
-    where
-      go : Dec (a + (n - 1) < memory) → ltb (a + (n - 1)) memory ≡ leb (a + n) memory
-      go (yes y) = lt-ltb (a + (n - 1)) memory y ∙ sym (le-leb (a + n) memory (omega arith))
-      go (no y) = le-ltb (a + (n - 1)) memory (omega arith) ∙ sym (lt-leb (a + n) memory (omega arith))
 
 -- ---- addresses
 

@@ -1,8 +1,8 @@
 -- What comes of testing the elements, from what the code has: an answer, an element, a number of pages, and what was wanted of a page.
-use Rattle.std.specs.Prelude.{Result, Ok, Err, ⊤}
+use Rattle.std.specs.Prelude.{Ok, Err}
 use Prim.Native.Nat.{ℕ, ◌+◌, ◌<◌}
 use mathlib.Core.Path.{◌≡◌}
-use mathlib.Core.Bool.{Bool, true, false, cond}
+use mathlib.Core.Bool.{Bool, true}
 use mathlib.Core.List.{List}
 use Rattle.width.specs.Width.{flag}
 use Rattle.answer.specs.declared.Answer.{Answer}
@@ -12,11 +12,10 @@ use Rattle.access.specs.declared.Fault.{Fault}
 use Rattle.access.specs.Access.{nothing_wanted}
 use Rattle.access.proofs.AccessLaws.{granted-facts}
 use Rattle.plan.specs.declared.Transfer.{Transfer}
-use Rattle.machine.specs.Effect.{active_of, element_address}
-use Rattle.unit_stride.specs.declared.Checked.{Checked}
+use Rattle.machine.specs.Effect.{element_address}
 use Rattle.unit_stride.specs.Pages.{page_tested}
 use Rattle.unit_stride.proofs.PackedLaws.{page-tested}
-use Rattle.unit_stride.specs.Tested.{all, test_of, pages_from, Tested, none-faults, first-faults}
+use Rattle.unit_stride.specs.Tested.{test_of, pages_from, Tested, none-faults, first-faults}
 
 module _ (active : ℕ → Bool) (rights : List ℕ) (memory : ℕ) (t : Transfer) (v n : ℕ) where
   pub finishes : (pages : ℕ) → ((j : ℕ) → j < n → test_of active rights memory t (v + j) ≡ Ok tt)
@@ -31,14 +30,6 @@ module _ (active : ℕ → Bool) (rights : List ℕ) (memory : ℕ) (t : Transfe
       → Tested active rights memory t v n (record { answer = x; element = element; pages = pages; wanted = w })
   faults k element pages x w f l h g p o q e = rw (← p, ← o, ← q, ← e) (first-faults k f l h g)
 
--- an element that is active or not, by its test where it is
-module _ (active : Bool) (x r : Result ⊤ Fault) where
-  pub test-inactive : active ≡ false → r ≡ Ok tt → r ≡ cond active x (Ok tt)
-  test-inactive h e = rw h e
-
-  pub test-active : active ≡ true → r ≡ x → r ≡ cond active x (Ok tt)
-  test-active h e = rw h e
-
 -- an active element that is granted is inside memory
 module _ (active : ℕ → Bool) (rights : List ℕ) (memory : ℕ) (t : Transfer) where
   pub granted-inside : (i : ℕ) → active i ≡ true → test_of active rights memory t i ≡ Ok tt
@@ -48,11 +39,3 @@ module _ (active : ℕ → Bool) (rights : List ℕ) (memory : ℕ) (t : Transfe
       page-tested memory _ _ f.aligned f.inside
 
 -- ---- with a mask or without
-
-module _ (vlenb : ℕ) (file rights : List ℕ) (memory : ℕ) (t : Transfer) (v n : ℕ) (masked : Bool) (r : Checked) where
-  pub by_mask : masked ≡ true → Tested (active_of vlenb file true) rights memory t v n r
-      → Tested (active_of vlenb file masked) rights memory t v n r
-  by_mask e h = rw e h
-
-  pub without-mask : masked ≡ false → Tested all rights memory t v n r → Tested (active_of vlenb file masked) rights memory t v n r
-  without-mask e h = rw e h

@@ -5,11 +5,9 @@ use mathlib.Core.Path.{◌≡◌, refl, sym, ap, subst, ◌∙◌}
 use mathlib.Core.Bool.{Bool, true, false}
 use mathlib.Core.List.{List}
 use native.Mathlib.Omega.{arith}
-use native.Mathlib.Nat.{add-zero, mul-le-mul_right, div-le_self}
+use native.Mathlib.Nat.{add-zero, mul-le-mul_right}
 use native.Mathlib.Numerals.{add-one}
 use native.Mathlib.Decide.{dec_lt}
-use mir.Syntax.{w64}
-use mir.Val.{Fits}
 use lib.ListN.{get_or}
 use lib.Dec.{T, eqb}
 use Rattle.layout.specs.Layout.{byte_size}
@@ -74,31 +72,6 @@ module _ (rights : List ℕ) (right first last : ℕ) where
     pub least : first ≤ page
     pub most : page ≤ suc last
     pub before : (p : ℕ) → first ≤ p → p < page → right ≤ get_or rights p 0
-
-  pub scanned-none : first ≤ last → Scanned first
-  scanned-none l = record { least = omega arith; most = omega arith; before = λ p a b. absurd (omega arith) }
-
-  module _ (page : ℕ) (s : Scanned page) where
-    pub scanned-more : page ≤ last → right ≤ get_or rights page 0 → Scanned (page + 1)
-    scanned-more l r = record {
-      least = omega (arith, s.least);
-      most = omega arith;
-      before = λ p a b. elim (dec_lt p page) [
-        | yes y ↦ s.before p a y
-        | no y ↦ let z : p ≡ page = omega arith in rw z r
-      ];
-    }
-
-    pub scanned-closed : get_or rights page 0 < right → FirstClosed rights right first last page
-    scanned-closed l = record { least = s.least; most = s.most; before = s.before; closed = λ h. l }
-
-    pub scanned-all : last < page → FirstClosed rights right first last (last + 1)
-    scanned-all l = record {
-      least = omega (arith, s.least, s.most);
-      most = omega arith;
-      before = λ p a b. s.before p a (omega arith);
-      closed = λ h. absurd (omega arith);
-    }
 
 -- ---- the access
 
@@ -206,15 +179,6 @@ module _ (rights : List ℕ) (memory : ℕ) (t : Transfer) (v n : ℕ) (g : Pack
       last_within : at (inside - 1) + t.bytes ≤ memory
       last_within = within (inside - 1) (omega arith)
 
-      pub span_fits : Fits w64 ((inside - 1) * t.bytes)
-      span_fits = record { fits = omega (arith, last_within, g.memory-length) }
-
-      pub last_fits : Fits w64 (start + (inside - 1) * t.bytes)
-      last_fits = record { fits = omega (arith, last_within, g.memory-length) }
-
-      pub first-last : start / 256 ≤ (start + (inside - 1) * t.bytes) / 256
-      first-last = omega arith
-
       -- an access has at most 128 bytes
       pub two-pages : (start + (inside - 1) * t.bytes) / 256 ≤ start / 256 + 1
       two-pages =
@@ -224,19 +188,8 @@ module _ (rights : List ℕ) (memory : ℕ) (t : Transfer) (v n : ℕ) (g : Pack
       pub last-page : (start + (inside - 1) * t.bytes) / 256 < 256
       last-page = omega (arith, last_within, g.memory-length, size-pos t.bytes g.size)
 
-      pub pages-fit : Fits w64 ((start + (inside - 1) * t.bytes) / 256 - start / 256 + 1)
-      pages-fit = record { fits = omega (arith, last-page) }
-
       module _ (closed right : ℕ) (r : right ≡ needed t.store)
           (c : FirstClosed rights right (start / 256) ((start + (inside - 1) * t.bytes) / 256) closed) where
-        pub page-fits : Fits w64 (256 * closed)
-        page-fits = record { fits = omega (arith, c.most, last-page) }
-
-        pub element-fits : (d : ℕ) → d ≡ 256 * closed - start → Fits w64 (v + d / t.bytes)
-        element-fits d e =
-            let l : d / t.bytes ≤ d = div-le_self d t.bytes in
-            record { fits = omega (arith, c.most, last-page, g.few) }
-
         open_at : (j : ℕ) → j < inside → page_of (at j) < closed → test_of all rights memory t (v + j) ≡ Ok tt
         open_at j l m = granted-at j l (rw (← r) (c.before (page_of (at j)) (omega arith) m))
 

@@ -1,18 +1,12 @@
 use Rattle.unit_stride.proofs.MaskedLaws.{walking-none, walking-more, walking-fault, walking-done}
-use Rattle.unit_stride.proofs.MaskedLaws.{index-fits, mask_at, tally-few, page-few}
+use Rattle.unit_stride.proofs.MaskedLaws.{mask_at}
 use Rattle.unit_stride.proofs.walked.Goals as goal
 
 pub loop-k-init : goal.loop-k-init
 loop-k-init c = search walking-none
 
-pub overflow_add-i : goal.overflow_add-i
-overflow_add-i c = search index-fits
-
 pub active-active-requires : goal.active-active-requires
 active-active-requires c = search mask_at
-
-pub tallied-tally-requires : goal.tallied-tally-requires
-tallied-tally-requires c = (search tally-few, search page-few)
 
 pub loop-k-preserved : goal.loop-k-preserved
 loop-k-preserved c = walking-more _ _ _ _ _ _ c.requires.0 _ _ c.loop-k.invariant c.loop-k-test.true
