@@ -44,7 +44,7 @@ fn avl_of(x: &[u64], avl: AvlSource) -> Avl
     match avl {
         AvlSource::Register(r) => Avl::To(plan::scalar(x, r)),
         AvlSource::Number(n) => Avl::To(n),
-        AvlSource::Largest => Avl::To(0xffff_ffff_ffff_ffff),
+        AvlSource::Largest => Avl::To(u64::MAX),
         AvlSource::Kept => Avl::Keep,
     }
 }
@@ -86,7 +86,7 @@ fn count(registers: &[u8], vlenb: usize, m: MaskInstruction, vl: usize) -> u64
     n
 }
 
-// The first of the vl elements that is active and set; vl where none is.
+// The first of the vl elements that is active and set; where none is vl, and no Option: both callers compare it, as `first_of` has it.
 fn first(registers: &[u8], vlenb: usize, m: MaskInstruction, vl: usize) -> usize
     requires { Holds (length registers.now) vlenb vl m }
     ensures { result ≡ first_of vlenb registers.now m.masked m.vs2 0 vl }
@@ -109,7 +109,7 @@ fn first_or_ones(registers: &[u8], vlenb: usize, m: MaskInstruction, vl: usize) 
     if f < vl {
         return f as u64;
     }
-    0xffff_ffff_ffff_ffff
+    u64::MAX
 }
 
 // The bit of element i by the first element that is active and set.
