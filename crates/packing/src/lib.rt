@@ -52,15 +52,10 @@ fn step(registers: &mut [u8], vlenb: usize, p: Packing, i: usize, n: usize) -> u
     let set = execute::set_at(registers, vlenb, p.masked, p.mask, i);
     let next = n + usize::from(set);
     match op {
-        PackOp::Viota => {
-            count_into(registers, vlenb, p, i, n);
-            next
-        }
-        PackOp::Vcompress => {
-            pack_into(registers, vlenb, p, set, i, n);
-            next
-        }
+        PackOp::Viota => count_into(registers, vlenb, p, i, n),
+        PackOp::Vcompress => pack_into(registers, vlenb, p, set, i, n),
     }
+    next
 }
 
 // The one turn of viota.m or vcompress.vm. The destination overlaps no source, so each is read as it was before.
