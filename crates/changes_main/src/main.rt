@@ -69,17 +69,16 @@ fn next_line(input: &mut impl Read) -> Option<Line> {
 
 fn set_bytes(bytes: &mut [u8], line: &[u8]) {
     let first = hexadecimal::number(line, 0, 5) as usize;
-    let n = hexadecimal::number(line, 5, 2) as u32;
-    for k in 0..n {
-        if let Some(byte) = bytes.get_mut(first + k as usize) {
-            *byte = hexadecimal::number(line, 7 + 2 * k, 2) as u8;
-        }
+    let n = hexadecimal::number(line, 5, 2) as u8;
+    for (k, byte) in (0..n).zip(bytes.iter_mut().skip(first)) {
+        *byte = hexadecimal::number(line, 7 + 2 * u32::from(k), 2) as u8;
     }
 }
 
 // ---- a machine
 
-// What the turns of a machine have come to: the last answer, the number passed in all of them, where a fault lies, the control record.
+// What the turns of a machine have come to: the last answer, the number passed in all of them, where a fault lies, and the fields of the
+// control record.
 #[derive(Clone, Copy, PartialEq)]
 struct Told {
     answer: u64,

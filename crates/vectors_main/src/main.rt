@@ -170,11 +170,9 @@ impl Case {
 
     fn set_registers(&mut self, line: &[u8]) {
         let first = 8 * hexadecimal::number(line, 0, 2) as usize;
-        let n = hexadecimal::number(line, 2, 2) as u32;
-        for k in 0..n {
-            if let Some(byte) = self.registers.get_mut(first + k as usize) {
-                *byte = hexadecimal::number(line, 4 + 2 * k, 2) as u8;
-            }
+        let n = hexadecimal::number(line, 2, 2) as u8;
+        for (k, byte) in (0..n).zip(self.registers.iter_mut().skip(first)) {
+            *byte = hexadecimal::number(line, 4 + 2 * u32::from(k), 2) as u8;
         }
     }
 
