@@ -1,6 +1,6 @@
 -- Operands by where they come from, and an element by what it comes to: masked off, faulted, moved field by field, or computed.
-use Rattle.std.proofs.Common.{◌≡◌, ℕ, suc, ◌+◌, ◌-◌, ◌*◌, ◌^◌, ◌<◌, ◌≤◌, Bool, true, false, cond, ◌&&◌, eqb, List, [], ◌∷◌, length, sym, refl, ap, ◌∙◌, subst, mul-le-mul_right, mod-eq_of_lt, add-one, arith}
-use Rattle.std.specs.Prelude.{Result, Ok, Err, ⊤}
+use Rattle.std.proofs.Common.{◌≡◌, ℕ, suc, ◌+◌, ◌-◌, ◌*◌, ◌^◌, ◌<◌, ◌≤◌, Bool, true, false, cond, List, [], ◌∷◌, length, sym, refl, ap, ◌∙◌, subst, mul-le-mul_right, mod-eq_of_lt, add-one, arith}
+use Rattle.std.specs.Prelude.{Result, Ok, ⊤}
 use Rattle.fixed.specs.declared.Element.{Element}
 use Rattle.alu.specs.Element.{element_of}
 use Rattle.control.specs.declared.Board.{Board}
@@ -30,10 +30,6 @@ read-inside size vlenb i read v e h = rw e at h
 
 pub value-of : (vlenb i r : ℕ) (file : List ℕ) (read v : Read) → read ≡ v → r ≡ value_of vlenb file v i → r ≡ value_of vlenb file read i
 value-of vlenb i r file read v e p = rw e p
-
--- a bit that is set where its element is active
-pub set_is : (a b : Bool) (x y : ℕ) → a ≡ b → x ≡ y → (a && eqb x 1) ≡ (b && eqb y 1)
-set_is a b x y p q = rw (p, q)
 
 -- ---- the fields of an element, one after the other
 
@@ -165,12 +161,6 @@ module _ (vlenb : ℕ) (rights file memory file' memory' : List ℕ) (store : Bo
     (p : v ≡ fields_access rights (length memory) store a n 0 (nfields g)) (x : List ℕ) (c : Control) where
   abbrev moves : Effect Fault (List Write)
   moves = transferring vlenb rights (core_at file memory x c) store g n i a
-
-  pub faulted : (f : Fault) (r : Result ⊤ Fault) → v ≡ Err f → r ≡ Err f
-      → Did vlenb moves (core_at file memory x c) r (core_at file memory x c)
-  faulted f r q t =
-      let h : fields_access rights (length memory) store a n 0 (nfields g) ≡ Err f = cc in
-      record { check = t ∙ rw h; state = rw h }
 
   pub moved : v ≡ Ok tt
       → ((x : List ℕ) (c : Control) → core_at file' memory' x c
