@@ -5,7 +5,7 @@ use Prim.Native.Nat.{ℕ, zero, suc, ◌+◌, ◌-◌, ◌*◌, ◌/◌, ◌%◌
 use native.Mathlib.Omega.{arith}
 use native.Mathlib.Nat.{add-zero, add-suc, suc-add, mul-suc, pow-suc, mod-lt, mod-eq_of_lt}
 use native.Mathlib.Numerals.{add-one}
-use lib.ListN.{length, get_or, set, drop, length-append, length-set, drop_of_length-le}
+use lib.ListN.{length, get_or, set, drop, length-append, drop_of_length-le}
 use lib.Seq.{set_out, drop-cons}
 use lib.Dec.{ltb}
 use lib.Pow.{pow-add}
@@ -37,16 +37,6 @@ both {t} {s = s} {u} p q =
 
 -- ---- the buffer
 
-pub over-length : (out : List ℕ) (at : ℕ) (t : List ℕ) → length (over out at t) ≡ length out
-unfolding over
-over-length out at [] = refl
-over-length out at (b ∷ t) = over-length (set out at b) (suc at) t ∙ length-set out at b
-
-pub over_none : (at : ℕ) (t : List ℕ) → over [] at t ≡ []
-unfolding over
-over_none at [] = refl
-over_none at (b ∷ t) = over_none (suc at) t
-
 -- behind a first byte
 over-behind : (x : ℕ) (out : List ℕ) (at : ℕ) (t : List ℕ) → over (x ∷ out) (suc at) t ≡ x ∷ over out at t
 unfolding over
@@ -58,10 +48,6 @@ unfolding over
 over-whole out [] h = refl
 over-whole [] (b ∷ t) h = absurd (omega arith)
 over-whole (x ∷ out) (b ∷ t) h = over-behind b out 0 t ∙ ap (λ (l : List ℕ). b ∷ l) (over-whole out t (omega arith))
-
--- the length of the buffer
-pub kept : {o s o1 : List ℕ} {a a1 : ℕ} → Wrote o a s o1 a1 → length o1 ≡ length o
-kept {o} {s} {a = a} p = ap length p.bytes ∙ over-length o a s
 
 -- ---- one byte
 
