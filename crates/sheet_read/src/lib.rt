@@ -136,7 +136,7 @@ pub struct Words {
     pub count: u32,
 }
 
-// The allowance, where its line is good.
+// The allowance, where its line is good. One call a byte: `search` did not join what `from_fn` fills to the definition's four bytes.
 pub fn allow(s: &[u8]) -> Option<u64>
     ensures { Allowed (allow_of s.now) result }
 {
