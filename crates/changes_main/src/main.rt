@@ -9,6 +9,8 @@
 
 #![tactic(auto)]
 
+use access::FaultPlace;
+use answer::Answer;
 use case_lines::next_bytes;
 use control::{Board, Control};
 use machine::Turned;
@@ -77,15 +79,12 @@ fn set_bytes(bytes: &mut [u8], line: &[u8]) {
 
 // ---- a machine
 
-// What the turns of a machine have come to: the last answer, the number passed in all of them, where a fault lies, and the fields of the
-// control record.
+// What the turns of a machine have come to: the last answer, the number passed in all of them, where a fault lies, the control record.
 #[derive(Clone, Copy, PartialEq)]
 struct Told {
-    answer: u64,
+    answer: Answer,
     passed: u64,
-    address: u64,
-    page: u64,
-    right: u8,
+    place: FaultPlace,
     control: Control,
 }
 
@@ -93,25 +92,19 @@ impl Told {
     // Of no turn yet.
     fn new(control: Control) -> Told {
         Told {
-            answer: 0,
+            answer: Answer::Finished,
             passed: 0,
-            address: 0,
-            page: 256,
-            right: 0,
+            place: FaultPlace::nowhere(),
             control,
         }
     }
 
     // With one turn more.
     fn with(self, turned: Turned) -> Told {
-        let place = turned.place;
-        let wanted = place.wanted;
         Told {
-            answer: u64::from(turned.answer),
+            answer: turned.answer,
             passed: self.passed.wrapping_add(turned.passed),
-            address: place.address,
-            page: wanted.page,
-            right: wanted.right,
+            place: turned.place,
             control: turned.control,
         }
     }
@@ -243,6 +236,7 @@ impl Case {
     // What is left of both, in one line.
     fn print(&self, output: &mut impl Write) -> io::Result<()> {
         let Told { answer, passed, .. } = self.cut.told;
+        let answer = u64::from(answer);
         let sum = self.cut.checksum();
         let outcome = if self.cut == self.whole {
             "same"

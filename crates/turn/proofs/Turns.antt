@@ -15,7 +15,7 @@ use Rattle.control.specs.declared.Control.{Control}
 use Rattle.control.specs.Board.{Valid}
 use Rattle.control.specs.Control.{with_vstart, dirtied, is_off}
 use Rattle.control.specs.Vtype.{sew_of}
-use Rattle.control.proofs.Laws.{Possible, possible-apart, typed-well-apart, supported-sew-le}
+use Rattle.control.proofs.Laws.{Possible, possible-apart, typed-well-apart, supported-sew-le, valid}
 use Rattle.decode.specs.declared.Instruction.{Instruction}
 use Rattle.decode.specs.Word.{decode_of}
 use Rattle.decode.specs.Fields.{Fits}
