@@ -2,7 +2,8 @@
 
 #![tactic(auto)]
 
-ghost use Rattle.std.specs.Prelude.{◌≡◌, ◌+◌, ◌*◌, ◌≤◌, ◌^◌, length};
+ghost use Rattle.std.specs.Prelude.{◌≡◌, ◌+◌, ◌*◌, ◌≤◌, ◌^◌, length, set};
+ghost use Rattle.hexadecimal.specs.Hexadecimal.{number_at};
 ghost use Rattle.text.specs.Text.{Wrote, Adds};
 ghost use Rattle.case_lines.specs.Lines.{control_at, spaced, control_text};
 ghost use Rattle.std.specs.Prelude.{IfSome, OnOk};
@@ -24,6 +25,17 @@ pub fn control_at(line: &[u8], at: u32) -> Control
         hexadecimal::number(line, at + 64, 16),
         hexadecimal::number(line, at + 80, 16),
     ])
+}
+
+// The scalar register of a line: two digits of its number, and 16 of its value. A number past the scalars sets none.
+pub fn set_scalar(scalars: &mut [u64], line: &[u8])
+    ensures { scalars.new ≡ set scalars.old (number_at line.now 0 2) (number_at line.now 2 16) }
+{
+    let at = hexadecimal::number(line, 0, 2) as usize;
+    // by its index: of a `get_mut` the check knows no more than the length after
+    if at < scalars.len() {
+        scalars[at] = hexadecimal::number(line, 2, 16);
+    }
 }
 
 // The next bytes of the input; none where it ends before them, or is not to be read.

@@ -132,13 +132,6 @@ impl Machine {
         }
     }
 
-    fn set_scalar(&mut self, line: &[u8]) {
-        let at = hexadecimal::number(line, 0, 2) as usize;
-        if let Some(scalar) = self.scalars.get_mut(at) {
-            *scalar = hexadecimal::number(line, 2, 16);
-        }
-    }
-
     fn set_rights(&mut self, line: &[u8]) {
         let first = hexadecimal::number(line, 0, 2) as usize;
         let last = hexadecimal::number(line, 2, 2) as usize;
@@ -218,8 +211,8 @@ impl Case {
                 set_bytes(&mut self.whole.memory, &line);
             }
             Line::Scalar(line) => {
-                self.cut.set_scalar(&line);
-                self.whole.set_scalar(&line);
+                case_lines::set_scalar(&mut self.cut.scalars, &line);
+                case_lines::set_scalar(&mut self.whole.scalars, &line);
             }
             Line::Rights(line) => self.cut.set_rights(&line),
             Line::UncutRights(line) => self.whole.set_rights(&line),

@@ -152,20 +152,13 @@ impl Case {
                 self.scalars = blank.scalars;
                 self.rights = blank.rights;
             }
-            Line::Scalar(line) => self.set_scalar(&line),
+            Line::Scalar(line) => case_lines::set_scalar(&mut self.scalars, &line),
             Line::Registers(line) => self.set_registers(&line),
             Line::Rights(line) => self.set_rights(&line),
             Line::Turn(board) => return self.turn(board, blank, output),
             Line::Check(board) => return print_checked(output, self.checked(board)),
         }
         Ok(())
-    }
-
-    fn set_scalar(&mut self, line: &[u8]) {
-        let at = hexadecimal::number(line, 0, 2) as usize;
-        if let Some(scalar) = self.scalars.get_mut(at) {
-            *scalar = hexadecimal::number(line, 2, 16);
-        }
     }
 
     fn set_registers(&mut self, line: &[u8]) {
