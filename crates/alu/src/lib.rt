@@ -7,6 +7,7 @@ ghost use Rattle.alu.specs.Element.{element_of, Operands};
 
 use fixed::{Element, Vxrm};
 use operation::Op;
+use width::Eew;
 
 // a is the element of vs2, b that of vs1 (or the scalar or immediate in its place), d that of vd before, c the bit of v0.
 #[tactic(auto, using(crate::proofs::Arms::arms))]
@@ -14,6 +15,7 @@ pub fn element(op: Op, sew: u64, rm: Vxrm, a: u64, b: u64, d: u64, c: u64) -> El
     requires { Operands op sew a b c }
     ensures { result ≡ element_of sew rm a b d c op }
 {
+    let sew = Eew { bits: sew };
     match op {
         Op::Vadd => Element::exact(integer::add(sew, a, b)),
         Op::Vsub => Element::exact(integer::sub(sew, a, b)),

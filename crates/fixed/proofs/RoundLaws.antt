@@ -12,7 +12,7 @@ use mir.Syntax.{w64}
 use mir.Val.{Fits, SFits, to_z, of_z, bool_byte}
 use mir.Facts.{to_z-of_z, to_z_pos}
 use borrow.Author.Tests.{eq-eqb, ne_eqb}
-use Rattle.width.specs.Width.{wrap, flag}
+use Rattle.width.specs.Width.{wrap}
 use Rattle.width.proofs.FlagLaws.{byte-is}
 use Rattle.width.proofs.SignedLaws.{wrap-lt, shr-back}
 use Rattle.fixed.specs.declared.Vxrm.{Vxrm}

@@ -4,7 +4,6 @@
 #![tactic(auto)]
 
 ghost use Rattle.std.specs.Prelude.{◌≡◌, List, ℕ, ◌-◌, ◌^◌, ◌<◌, length, T};
-ghost use Rattle.width.specs.Width.{Width};
 ghost use Rattle.fixed.specs.Round.{exact};
 ghost use Rattle.fixed.specs.declared.Vxrm.TheVariants.{Rnu};
 ghost use Rattle.operation.specs.declared.Op.{Op};
@@ -19,6 +18,7 @@ ghost use Rattle.kernel.specs.Kernel.{operation_at, start_of, source_of, SourceI
 use control::Board;
 use operation::Op;
 use plan::{Compute, Elementwise, Read};
+use width::Eew;
 
 // The second operand: a scalar, or the elements from an index of the register file on.
 #[derive(Clone, Copy)]
@@ -56,9 +56,8 @@ trait Operation {
     ghost op: { Op };
 
     // What it gives of an element a of vs2, b of vs1 and d of vd.
-    fn apply(sew: u64, a: u64, b: u64, d: u64) -> u64
-        requires { Width sew }
-        ensures { exact result ≡ element_of sew Rnu a b d 0 op };
+    fn apply(sew: Eew, a: u64, b: u64, d: u64) -> u64
+        ensures { exact result ≡ element_of sew.bits Rnu a b d 0 op };
 }
 
 struct Add;
@@ -78,7 +77,7 @@ struct Macc;
 impl Operation for Add {
     ghost op = { Vadd };
 
-    fn apply(sew: u64, a: u64, b: u64, _d: u64) -> u64 {
+    fn apply(sew: Eew, a: u64, b: u64, _d: u64) -> u64 {
         integer::add(sew, a, b)
     }
 }
@@ -86,7 +85,7 @@ impl Operation for Add {
 impl Operation for Sub {
     ghost op = { Vsub };
 
-    fn apply(sew: u64, a: u64, b: u64, _d: u64) -> u64 {
+    fn apply(sew: Eew, a: u64, b: u64, _d: u64) -> u64 {
         integer::sub(sew, a, b)
     }
 }
@@ -94,7 +93,7 @@ impl Operation for Sub {
 impl Operation for And {
     ghost op = { Vand };
 
-    fn apply(sew: u64, a: u64, b: u64, _d: u64) -> u64 {
+    fn apply(sew: Eew, a: u64, b: u64, _d: u64) -> u64 {
         integer::and(sew, a, b)
     }
 }
@@ -102,7 +101,7 @@ impl Operation for And {
 impl Operation for Or {
     ghost op = { Vor };
 
-    fn apply(sew: u64, a: u64, b: u64, _d: u64) -> u64 {
+    fn apply(sew: Eew, a: u64, b: u64, _d: u64) -> u64 {
         integer::or(sew, a, b)
     }
 }
@@ -110,7 +109,7 @@ impl Operation for Or {
 impl Operation for Xor {
     ghost op = { Vxor };
 
-    fn apply(sew: u64, a: u64, b: u64, _d: u64) -> u64 {
+    fn apply(sew: Eew, a: u64, b: u64, _d: u64) -> u64 {
         integer::xor(sew, a, b)
     }
 }
@@ -118,7 +117,7 @@ impl Operation for Xor {
 impl Operation for Mul {
     ghost op = { Vmul };
 
-    fn apply(sew: u64, a: u64, b: u64, _d: u64) -> u64 {
+    fn apply(sew: Eew, a: u64, b: u64, _d: u64) -> u64 {
         multiply::mul(sew, a, b)
     }
 }
@@ -126,7 +125,7 @@ impl Operation for Mul {
 impl Operation for Macc {
     ghost op = { Vmacc };
 
-    fn apply(sew: u64, a: u64, b: u64, d: u64) -> u64 {
+    fn apply(sew: Eew, a: u64, b: u64, d: u64) -> u64 {
         multiply::macc(sew, a, b, d)
     }
 }
@@ -152,12 +151,15 @@ fn kernel<O: Operation, const N: usize>(registers: &mut [u8], s: Stretch)
     let vd = s.vd;
     let vs2 = s.vs2;
     let vs1 = s.vs1;
+    let sew = Eew {
+        bits: 8 * (N as u64),
+    };
     for i in s.from..s.end {
         let at = i * N;
         let a = layout::read_bytes(registers, vs2 + at, N);
         let b = second(registers, vs1, N, at);
         let d = layout::read_bytes(registers, vd + at, N);
-        let r = O::apply(8 * (N as u64), a, b, d);
+        let r = O::apply(sew, a, b, d);
         layout::write_bytes(registers, vd + at, N, r);
     }
 }

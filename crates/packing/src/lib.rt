@@ -11,6 +11,7 @@ ghost use Rattle.packing.specs.Packable.{Reachable, packed_at, Packable};
 
 use decode::PackOp;
 use plan::Packing;
+use width::Eew;
 
 // viota.m: element i gets n, how many bits are set below it, if it is active.
 fn count_into(registers: &mut [u8], vlenb: usize, p: Packing, i: usize, n: usize)
@@ -21,7 +22,10 @@ fn count_into(registers: &mut [u8], vlenb: usize, p: Packing, i: usize, n: usize
 {
     let vd = p.vd;
     if execute::active(registers, vlenb, p.masked, i) {
-        let z = width::low(vd.eew as u64, n as u64);
+        let eew = Eew {
+            bits: vd.eew as u64,
+        };
+        let z = eew.low(n as u64);
         layout::write_element(registers, vlenb, vd.reg, vd.eew, i, z);
     }
 }

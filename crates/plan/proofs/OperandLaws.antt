@@ -5,7 +5,7 @@ use mathlib.Core.Logic.{◌⊎◌, ⊎_elim}
 use mathlib.Core.Bool.{Bool, cond}
 use mathlib.Core.List.{List}
 use native.Mathlib.Omega.{arith}
-use Rattle.width.specs.Width.{Width, signed, wrap}
+use Rattle.width.specs.Width.{signed, wrap}
 use Rattle.operation.specs.declared.Size.{Size}
 use Rattle.operation.specs.declared.Size.TheVariants.{Absent, Bit, Eighth, Quarter, Half, Single, Double}
 use Rattle.operation.specs.Shape.{eew_of}
@@ -43,9 +43,6 @@ sew-small v s e = omega (arith, sew-le v)
 
 pub lmul8-most : (v m : ℕ) → m ≡ lmul8_of v → m ≤ 64
 lmul8-most v m e = omega (arith, lmul8-le v)
-
-pub width_is : (v s : ℕ) → s ≡ sew_of v → sew_of v ≤ 64 → Width s
-width_is v s e h = record { some = sew-some v s e; most = omega arith }
 
 eew-le : (z : Size) (s : ℕ) → s ≤ 1024 → eew_of z s ≤ 2048
 eew-le Absent s h = omega arith

@@ -24,6 +24,7 @@ use decode::{
 use fixed::Vxrm;
 use group::Group;
 use operation::{Op, Size, V0};
+use width::Eew;
 
 // Where an operand's element comes from: the same number at every index, an element of a register group, or a bit of a mask register.
 #[derive(Clone, Copy)]
@@ -210,14 +211,14 @@ pub fn scalar(x: &[u64], r: usize) -> u64
 }
 
 // A 5-bit immediate at SEW: sign-extended, unless it is an unsigned one.
-fn immediate(sew: u64, unsigned: bool, n: u64) -> u64
-    requires { (1 ≤ sew) × ((sew ≤ 64) × (n < 32)) }
-    ensures { result ≡ cond unsigned n (wrap sew (signed 5 n)) }
+fn immediate(sew: Eew, unsigned: bool, n: u64) -> u64
+    requires { n < 32 }
+    ensures { result ≡ cond unsigned n (wrap sew.bits (signed 5 n)) }
 {
     if unsigned {
         return n;
     }
-    integer::extend(5, sew, n)
+    integer::extend(Eew { bits: 5 }, sew, n)
 }
 
 // The second source.
@@ -225,10 +226,12 @@ fn second(x: &[u64], vtype: u64, size: Size, unsigned: bool, source: Source) -> 
     requires { (length x.now ≡ 32) × ((sew_of vtype ≤ 64) × SourceFits source) }
     ensures { result ≡ second_of x.now vtype size unsigned source }
 {
-    let sew = Control::sew(vtype);
+    let sew = Eew {
+        bits: Control::sew(vtype),
+    };
     match source {
         Source::Vector(r) => read_at(vtype, size, r),
-        Source::Scalar(r) => Read::Constant(width::low(sew, scalar(x, r))),
+        Source::Scalar(r) => Read::Constant(sew.low(scalar(x, r))),
         Source::Immediate(n) => Read::Constant(immediate(sew, unsigned, n)),
     }
 }

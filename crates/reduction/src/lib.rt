@@ -11,12 +11,15 @@ ghost use Rattle.reduction.specs.Reducible.{Joinable, Reachable, Reducible};
 
 use decode::ReductionOp;
 use plan::Reduction;
+use width::Eew;
 
 // An accumulator and an element, joined.
+#[tactic(auto, using(crate::proofs::Operators::within))]
 fn joined(op: ReductionOp, sew: u64, acc: u64, x: u64) -> u64
     requires { Joinable op sew acc x }
     ensures { result ≡ joined_by op sew acc x }
 {
+    let sew = Eew { bits: sew };
     match op {
         ReductionOp::Vredsum => integer::add(sew, acc, x),
         ReductionOp::Vredand => integer::and(sew, acc, x),

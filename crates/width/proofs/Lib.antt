@@ -1,3 +1,4 @@
+pub mod Widths
 pub mod Diff
 pub mod LowBits
 pub mod WrapLaws

@@ -1,8 +1,7 @@
 -- The low w bits of a number that is known modulo 2 ^ 64.
-use Rattle.std.proofs.Common.{◌≡◌, ℕ, ◌+◌, ◌-◌, ◌*◌, ◌/◌, ◌%◌, ◌^◌, ◌<◌, ◌≤◌, sym, ap, ◌∙◌, lt_of_le_of_lt, le_of_lt, mod-lt, mul-le-mul_left, mul-lt-mul_of_pos_right, sub-add_cancel, arith, pow_pos, pow-add}
+use Rattle.std.proofs.Common.{◌≡◌, ℕ, ◌+◌, ◌-◌, ◌*◌, ◌/◌, ◌%◌, ◌^◌, ◌<◌, ◌≤◌, sym, ap, ◌∙◌, lt_of_le_of_lt, le_of_lt, mul-le-mul_left, mul-lt-mul_of_pos_right, sub-add_cancel, arith, pow_pos, pow-add}
 use mathlib.Core.Path.{subst⁻¹}
 use lib.Bits.{bit_and, and_mask}
-use Rattle.width.specs.Width.{Width}
 use lib.Pow.{mod-mod-pow, ones_split, high, ones_lt, suc_ones}
 
 -- a width's power divides 2 ^ 64
@@ -28,7 +27,3 @@ and-ones x w m e = ap (λ (y : ℕ). bit_and x y) (omega (arith, suc_ones w)) �
 pub mul-lt : {a b : ℕ} (j k : ℕ) → a < 2 ^ j → b < 2 ^ k → a * b < 2 ^ (j + k)
 mul-lt {a} {b} j k h l =
     subst⁻¹ (λ (n : ℕ). a * b < n) (pow-add 2 j k) (lt_of_le_of_lt (mul-le-mul_left a (le_of_lt l)) (mul-lt-mul_of_pos_right h (pow_pos k)))
-
--- an amount below a width is one that a shift of 64 bits takes
-pub amount-lt : (b w : ℕ) → Width w → b % w < 64
-amount-lt b w h = omega (arith, mod-lt b h.some)

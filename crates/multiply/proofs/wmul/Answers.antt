@@ -1,5 +1,0 @@
-use Rattle.multiply.proofs.ProductLaws.{products}
-use Rattle.multiply.proofs.wmul.Goals as goal
-
-pub returns : goal.returns
-returns c = search products
