@@ -119,6 +119,9 @@ pub fn check(
     if !is_unit_stride(instruction) {
         return nothing_tested(Answer::Illegal);
     }
+    let Ok(scalars) = <&[u64; 32]>::try_from(scalars) else {
+        unreachable!()
+    };
     match legality::checked(board, scalars, control, instruction) {
         Plan::Illegal => nothing_tested(Answer::Illegal),
         Plan::OneTurn(_) => nothing_tested(Answer::Illegal),

@@ -2,7 +2,7 @@
 
 #![tactic(auto)]
 
-ghost use Rattle.std.specs.Prelude.{◌≡◌, ◌≤◌, ◌<◌, ◌++◌, length};
+ghost use Rattle.std.specs.Prelude.{◌≡◌, ◌≤◌, ◌<◌, ◌++◌};
 ghost use Rattle.control.specs.Vtype.{sew_of};
 ghost use Rattle.decode.specs.Fields.{Fits};
 ghost use Rattle.plan.specs.Plan.{plan_of};
@@ -240,8 +240,8 @@ fn legal(board: Board, control: Control, plan: Plan) -> bool
 }
 
 // The plan of a decoded word where it is legal, and `Illegal` where not.
-pub fn checked(board: Board, x: &[u64], control: Control, instruction: Instruction) -> Plan
-    requires { (length x.now ≡ 32) × ((sew_of control.vtype ≤ 64) × ((control.vl ≤ 128) × Fits instruction)) }
+pub fn checked(board: Board, x: &[u64; 32], control: Control, instruction: Instruction) -> Plan
+    requires { (sew_of control.vtype ≤ 64) × ((control.vl ≤ 128) × Fits instruction) }
     ensures { result ≡ checked_of board control (plan_of board x.now control instruction) }
 {
     let plan = plan::plan_of(board, x, control, instruction);

@@ -4,7 +4,6 @@ use mathlib.Core.Path.{◌≡◌, refl, sym, ap, ◌∙◌, subst}
 use mathlib.Core.Bool.{true, not}
 use mathlib.Core.List.{List}
 use native.Mathlib.Omega.{arith}
-use lib.ListN.{length}
 use lib.Dec.{T, eqb}
 use Rattle.std.specs.Prelude.{Option, Some, None}
 use Rattle.laws.proofs.Apart.{both_left, both_right, apart}
@@ -119,7 +118,7 @@ module _ (b : Board) (size : ℕ) (x : List ℕ) (c : Control) (t : OneTurn) (h 
   packing-holds p e =
       rw h.registers (packable b c (valid b) can-be x h.word p h.fits (h.plan ∙ ap P.OneTurn e) (is-legal (O.Packing p) e))
 
-  pub move-holds : (m : ScalarMove) → t ≡ O.ScalarMove m → Movable size b.vlenb (length x) m
+  pub move-holds : (m : ScalarMove) → t ≡ O.ScalarMove m → Movable size b.vlenb m
   unfolding one_turn_legal
   move-holds m e =
       let f : OneTurnFits (O.ScalarMove m) = subst OneTurnFits e one-turn-in-range in
@@ -127,7 +126,6 @@ module _ (b : Board) (size : ℕ) (x : List ℕ) (c : Control) (t : OneTurn) (h 
       subst (PlanMove c.vtype) (h.plan ∙ ap P.OneTurn e) (every-move b x c h.word) in
       let s : sew_of c.vtype ≤ b.elen = typed-sew b c can-be (both_left (not (eqb c.vtype vill)) _ (is-legal (O.ScalarMove m) e)) in
       record {
-        count = h.scalars;
         scalar = f.scalar;
         width = record { some = omega (arith, w, sew-ge c.vtype); most = omega (arith, w, s, (valid b).elen) };
         element = rw h.registers (subst (λ n. Inside (32 * b.vlenb) b.vlenb m.vector.reg n 0) (sym w)

@@ -25,8 +25,8 @@ use plan::{OneTurn, ScalarMove};
 // ---- scalar registers
 
 // x0 is never written.
-fn put_scalar(x: &mut [u64], r: usize, z: u64)
-    requires { (length x.old ≡ 32) × (r < 32) }
+fn put_scalar(x: &mut [u64; 32], r: usize, z: u64)
+    requires { r < 32 }
     ensures { x.new ≡ with_scalar x.old r z }
 {
     if r != 0 {
@@ -37,8 +37,8 @@ fn put_scalar(x: &mut [u64], r: usize, z: u64)
 // ---- setting
 
 // The application vector length that is asked for; none where vl is kept.
-fn avl_of(x: &[u64], avl: AvlSource) -> Option<u64>
-    requires { (length x.now ≡ 32) × AvlFits avl }
+fn avl_of(x: &[u64; 32], avl: AvlSource) -> Option<u64>
+    requires { AvlFits avl }
     ensures { result ≡ avl_from x.now avl }
 {
     match avl {
@@ -49,8 +49,8 @@ fn avl_of(x: &[u64], avl: AvlSource) -> Option<u64>
     }
 }
 
-fn type_of(x: &[u64], vtype: TypeSource) -> u64
-    requires { (length x.now ≡ 32) × TypeFits vtype }
+fn type_of(x: &[u64; 32], vtype: TypeSource) -> u64
+    requires { TypeFits vtype }
     ensures { result ≡ type_from x.now vtype }
 {
     match vtype {
@@ -60,8 +60,8 @@ fn type_of(x: &[u64], vtype: TypeSource) -> u64
 }
 
 // The control record after a setting instruction; rd gets the new vl.
-fn setting(board: Board, scalars: &mut [u64], control: Control, s: Setting) -> Control
-    requires { (length scalars.old ≡ 32) × SettingFits s }
+fn setting(board: Board, scalars: &mut [u64; 32], control: Control, s: Setting) -> Control
+    requires { SettingFits s }
     ensures { (result ≡ set_of board control (type_from scalars.old s.vtype) (avl_from scalars.old s.avl))
         × (scalars.new ≡ with_scalar scalars.old s.rd result.vl) }
 {
@@ -150,8 +150,14 @@ fn set_first(registers: &mut [u8], vlenb: usize, m: MaskInstruction, vl: usize)
 }
 
 // The one turn of an instruction on masks.
-fn mask_turn(registers: &mut [u8], scalars: &mut [u64], vlenb: usize, vl: usize, m: MaskInstruction)
-    requires { Holds (length registers.old) vlenb vl m × ((length scalars.old ≡ 32) × T (mask_apart m)) }
+fn mask_turn(
+    registers: &mut [u8],
+    scalars: &mut [u64; 32],
+    vlenb: usize,
+    vl: usize,
+    m: MaskInstruction,
+)
+    requires { Holds (length registers.old) vlenb vl m × T (mask_apart m) }
     ensures { (memory : List ℕ) (c : Control) → core_at registers.new memory scalars.new c
         ≡ mask_result vlenb vl m (core_at registers.old memory scalars.old c) m.op }
 {
@@ -172,8 +178,8 @@ fn mask_turn(registers: &mut [u8], scalars: &mut [u64], vlenb: usize, vl: usize,
 // ---- scalar moves
 
 // vmv.x.s: element 0, sign-extended to 64 bits, whatever vl is.
-fn to_scalar(registers: &[u8], scalars: &mut [u64], vlenb: usize, m: ScalarMove)
-    requires { Movable (length registers.now) vlenb (length scalars.old) m }
+fn to_scalar(registers: &[u8], scalars: &mut [u64; 32], vlenb: usize, m: ScalarMove)
+    requires { Movable (length registers.now) vlenb m }
     ensures { scalars.new
         ≡ with_scalar scalars.old m.scalar
         (wrap 64 (signed m.vector.eew (element_at vlenb registers.now m.vector.reg m.vector.eew 0))) }
@@ -186,13 +192,13 @@ fn to_scalar(registers: &[u8], scalars: &mut [u64], vlenb: usize, m: ScalarMove)
 // vmv.s.x: element 0, unless vstart has reached vl.
 fn to_vector(
     registers: &mut [u8],
-    scalars: &[u64],
+    scalars: &[u64; 32],
     vlenb: usize,
     vl: u64,
     vstart: u64,
     m: ScalarMove,
 )
-    requires { Movable (length registers.old) vlenb (length scalars.now) m }
+    requires { Movable (length registers.old) vlenb m }
     ensures { registers.new
         ≡ cond (ltb vstart vl)
         (with_element vlenb registers.old m.vector.reg m.vector.eew 0 (scalar_of scalars.now m.scalar))
@@ -208,12 +214,12 @@ fn to_vector(
 // The one turn of a scalar move.
 fn scalar_turn(
     registers: &mut [u8],
-    scalars: &mut [u64],
+    scalars: &mut [u64; 32],
     vlenb: usize,
     control: Control,
     m: ScalarMove,
 )
-    requires { Movable (length registers.old) vlenb (length scalars.old) m }
+    requires { Movable (length registers.old) vlenb m }
     ensures { (memory : List ℕ) → core_at registers.new memory scalars.new (with_vstart control 0)
         ≡ scalar_move_result vlenb m control.vstart
         (core_at registers.old memory scalars.old (with_vstart control 0)) m.op }
@@ -233,7 +239,7 @@ fn scalar_turn(
 pub fn perform(
     board: Board,
     registers: &mut [u8],
-    scalars: &mut [u64],
+    scalars: &mut [u64; 32],
     control: Control,
     t: OneTurn,
 ) -> Control

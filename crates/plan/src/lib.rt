@@ -2,7 +2,7 @@
 
 #![tactic(auto)]
 
-ghost use Rattle.std.specs.Prelude.{◌≡◌, ◌≤◌, ◌<◌, length, cond};
+ghost use Rattle.std.specs.Prelude.{◌≡◌, ◌≤◌, ◌<◌, cond};
 ghost use Rattle.width.specs.Width.{signed, wrap};
 ghost use Rattle.control.specs.Vtype.{sew_of};
 ghost use Rattle.decode.specs.Fields.{SourceFits, ArithmeticFits, PermutationFits, AccessFits, Fits};
@@ -200,8 +200,8 @@ fn group_of(read: Read) -> Group
 }
 
 // x0 reads 0.
-pub fn scalar(x: &[u64], r: usize) -> u64
-    requires { (length x.now ≡ 32) × (r < 32) }
+pub fn scalar(x: &[u64; 32], r: usize) -> u64
+    requires { r < 32 }
     ensures { result ≡ scalar_of x.now r }
 {
     if r == 0 {
@@ -222,8 +222,8 @@ fn immediate(sew: Eew, unsigned: bool, n: u64) -> u64
 }
 
 // The second source.
-fn second(x: &[u64], vtype: u64, size: Size, unsigned: bool, source: Source) -> Read
-    requires { (length x.now ≡ 32) × ((sew_of vtype ≤ 64) × SourceFits source) }
+fn second(x: &[u64; 32], vtype: u64, size: Size, unsigned: bool, source: Source) -> Read
+    requires { (sew_of vtype ≤ 64) × SourceFits source }
     ensures { result ≡ second_of x.now vtype size unsigned source }
 {
     let sew = Eew {
@@ -255,8 +255,8 @@ fn v0_masks(v0: V0, masked: bool) -> bool
 }
 
 // An arithmetic instruction.
-fn computing(x: &[u64], control: Control, a: Arithmetic) -> Elementwise
-    requires { (length x.now ≡ 32) × ((sew_of control.vtype ≤ 64) × ArithmeticFits a) }
+fn computing(x: &[u64; 32], control: Control, a: Arithmetic) -> Elementwise
+    requires { (sew_of control.vtype ≤ 64) × ArithmeticFits a }
     ensures { result ≡ computing_of x.now control a }
 {
     let op = a.op;
@@ -291,8 +291,8 @@ fn computing(x: &[u64], control: Control, a: Arithmetic) -> Elementwise
 // ---- permutations
 
 // An offset or an index, not cut to SEW.
-fn index_of(x: &[u64], vtype: u64, eew: u64, source: Source) -> Read
-    requires { (length x.now ≡ 32) × ((eew ≤ 2048) × SourceFits source) }
+fn index_of(x: &[u64; 32], vtype: u64, eew: u64, source: Source) -> Read
+    requires { (eew ≤ 2048) × SourceFits source }
     ensures { result ≡ index_of x.now vtype eew source }
 {
     match source {
@@ -313,8 +313,8 @@ fn moved_elements(vtype: u64, op: PermutationOp, reg: usize) -> Read
 }
 
 // The second operand of a permutation.
-fn moved_by(x: &[u64], vtype: u64, op: PermutationOp, source: Source) -> Read
-    requires { (length x.now ≡ 32) × ((sew_of vtype ≤ 64) × SourceFits source) }
+fn moved_by(x: &[u64; 32], vtype: u64, op: PermutationOp, source: Source) -> Read
+    requires { (sew_of vtype ≤ 64) × SourceFits source }
     ensures { result ≡ moved_by x.now vtype op source }
 {
     let sew = Control::sew(vtype);
@@ -331,8 +331,13 @@ fn moved_by(x: &[u64], vtype: u64, op: PermutationOp, source: Source) -> Read
 }
 
 // A permutation that goes element by element.
-fn permuting(board: Board, x: &[u64], control: Control, a: PermutationInstruction) -> Elementwise
-    requires { (length x.now ≡ 32) × ((sew_of control.vtype ≤ 64) × PermutationFits a) }
+fn permuting(
+    board: Board,
+    x: &[u64; 32],
+    control: Control,
+    a: PermutationInstruction,
+) -> Elementwise
+    requires { (sew_of control.vtype ≤ 64) × PermutationFits a }
     ensures { result ≡ permuting_of board x.now control a }
 {
     let op = a.op;
@@ -415,8 +420,8 @@ fn register_at(eew: usize, reg: usize) -> Group
 }
 
 // A load or a store, by its addressing mode.
-fn transferring(board: Board, x: &[u64], control: Control, a: Access) -> Elementwise
-    requires { (length x.now ≡ 32) × ((control.vl ≤ 128) × AccessFits a) }
+fn transferring(board: Board, x: &[u64; 32], control: Control, a: Access) -> Elementwise
+    requires { (control.vl ≤ 128) × AccessFits a }
     ensures { result ≡ transferring_of board x.now control a }
 {
     let mode = a.mode;
@@ -540,8 +545,8 @@ fn scalar_moving(vtype: u64, a: ScalarMoveInstruction) -> ScalarMove
 // ---- every decoded word
 
 // The plan of a decoded word.
-pub fn plan_of(board: Board, x: &[u64], control: Control, instruction: Instruction) -> Plan
-    requires { (length x.now ≡ 32) × ((sew_of control.vtype ≤ 64) × ((control.vl ≤ 128) × Fits instruction)) }
+pub fn plan_of(board: Board, x: &[u64; 32], control: Control, instruction: Instruction) -> Plan
+    requires { (sew_of control.vtype ≤ 64) × ((control.vl ≤ 128) × Fits instruction) }
     ensures { result ≡ plan_of board x.now control instruction }
 {
     match instruction {

@@ -1,18 +1,19 @@
 -- A turn of a word by the tests of the code: refused, illegal, of one turn, or of elements.
 use Rattle.std.specs.Prelude.{Result, Ok, Err, ⊤}
+use Rattle.std.specs.Array.{IsFirstChunk}
+use Rattle.std.proofs.lemmas.List.{take_all, drop_all, append-nil}
 use Prim.Native.Nat.{ℕ, ◌≤◌}
 use mathlib.Core.Path.{◌≡◌, refl, sym, ap, ◌∙◌}
 use mathlib.Core.Logic.{⊎_elim}
 use mathlib.Core.Bool.{Bool, true, false, not, cond, and-false}
-use mathlib.Core.List.{List}
+use mathlib.Core.List.{List, ◌++◌}
 use mathlib.Core.Option.{none, some}
 use native.Mathlib.Omega.{arith}
-use lib.ListN.{length}
+use lib.ListN.{length, drop}
 use Rattle.answer.specs.declared.Answer.{Answer}
 use Rattle.answer.specs.declared.Answer.TheVariants.{Finished, Illegal}
 use Rattle.control.specs.declared.Board.{Board}
 use Rattle.control.specs.declared.Control.{Control}
-use Rattle.control.specs.Board.{Valid}
 use Rattle.control.specs.Control.{with_vstart, dirtied, is_off}
 use Rattle.control.specs.Vtype.{sew_of}
 use Rattle.control.proofs.Laws.{Possible, possible-apart, typed-well-apart, supported-sew-le, valid}
@@ -62,6 +63,14 @@ module _ (b : Board) (registers scalars memory : ℕ) (rights : List ℕ) (c : C
   pub accepted-vl : c.vl ≤ 128
   accepted-vl = omega (arith, accepted-possible.vl, b.most)
 
+-- the array that is lent of 32 scalars is all of them, and what is left in it is all that is left
+module _ (x : List ℕ) (l : length x ≡ 32) where
+  pub all-lent : (y : List ℕ) → IsFirstChunk x y 32 → y ≡ x
+  all-lent y h = h.same ∙ take_all 32 x (omega (arith, l))
+
+  pub all-left : (y : List ℕ) → y ++ drop 32 x ≡ y
+  all-left y = rw (drop_all 32 x (omega (arith, l))) (append-nil y)
+
 pub decoded-fits : (word : ℕ) (d : Instruction) → d ≡ decode_of word → Fits d
 decoded-fits word d e = rw e (Decoded.fits word)
 
@@ -107,7 +116,6 @@ one-turn-performable b word registers memory x rights c v d p t q h k u e =
     let a = accepted-facts b registers (length x) memory rights c (sym q ∙ h) in
     record {
       registers = a.registers-length;
-      scalars = a.scalars-length;
       possible = a.possible;
       word = d;
       fits = decoded-fits word d k;

@@ -63,6 +63,9 @@ pub fn turn(
     if let Err(answer) = refused {
         return answered(answer, control);
     }
+    let Some(scalars) = scalars.first_chunk_mut::<32>() else {
+        unreachable!()
+    };
     match legality::checked(board, scalars, control, decode::decode(word)) {
         Plan::Illegal => answered(Answer::Illegal, control),
         Plan::OneTurn(t) => finished(one_turn::perform(board, registers, scalars, control, t)),

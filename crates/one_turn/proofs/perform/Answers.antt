@@ -1,17 +1,16 @@
 use Rattle.one_turn.proofs.ResultLaws.{setting-fits, mask-holds, mask-is-apart, reduction-holds, packing-holds, move-holds}
 use Rattle.one_turn.proofs.ResultLaws.{setting-left, mask-left, reduction-left, packing-left, move-left}
-use borrow.Author.Rules.{rules}
 use Rattle.one_turn.proofs.perform.Goals as goal
 use Rattle.one_turn.proofs.perform.Goals.{in-Mask, in-Reduction, in-Packing, in-ScalarMove}
 
 pub setting-requires : goal.setting-requires
-setting-requires c = (search rules, search setting-fits)
+setting-requires c = search setting-fits
 
 pub returns-in-Setting : goal.returns-in-Setting
 returns-in-Setting c = search setting-left
 
 pub mask_turn-requires : goal.mask_turn-requires
-mask_turn-requires c = (search mask-holds, (search rules, search mask-is-apart))
+mask_turn-requires c = (search mask-holds, search mask-is-apart)
 
 pub reduce-requires : goal.reduce-requires
 reduce-requires c = search reduction-holds
