@@ -10,6 +10,7 @@ use decode::Instruction;
 use fixed::{Element, Vxrm};
 use operation::{Op, Size};
 use std::io::{self, BufReader, BufWriter, Write};
+use width::Eew;
 
 // The bytes of a case, with its newline.
 const LINE: usize = 67;
@@ -23,7 +24,7 @@ fn cut(size: Size, sew: u64, x: u64) -> u64
     ensures { result < 2 ^ eew_of size sew }
 {
     match operation::eew(size, sew) {
-        eew @ 1..=64 => width::low(eew, x),
+        eew @ 1..=64 => Eew { bits: eew }.low(x),
         _ => 0,
     }
 }

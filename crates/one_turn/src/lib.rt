@@ -21,6 +21,7 @@ ghost use Rattle.one_turn.specs.Performable.{Performable};
 use control::{Board, Control};
 use decode::{AvlSource, MaskInstruction, MaskOp, ScalarMoveOp, Setting, TypeSource};
 use plan::{OneTurn, ScalarMove};
+use width::Eew;
 
 // ---- scalar registers
 
@@ -185,8 +186,11 @@ fn to_scalar(registers: &[u8], scalars: &mut [u64; 32], vlenb: usize, m: ScalarM
         (wrap 64 (signed m.vector.eew (element_at vlenb registers.now m.vector.reg m.vector.eew 0))) }
 {
     let vector = m.vector;
+    let eew = Eew {
+        bits: vector.eew as u64,
+    };
     let z = layout::read_element(registers, vlenb, vector.reg, vector.eew, 0);
-    put_scalar(scalars, m.scalar, integer::extend(vector.eew as u64, 64, z));
+    put_scalar(scalars, m.scalar, integer::extend(eew, Eew { bits: 64 }, z));
 }
 
 // vmv.s.x: element 0, unless vstart has reached vl.

@@ -11,6 +11,7 @@ ghost use Rattle.execute.specs.Step.{ReadInside, Ready, Permutable, core_at, Did
 use control::Board;
 use decode::PermutationOp;
 use plan::{Elementwise, Permute, Read};
+use width::Eew;
 
 // Element k of vs2, and 0 from VLMAX on.
 fn vs2_at(registers: &[u8], vlenb: usize, vs2: Read, vlmax: u64, k: u64) -> u64
@@ -73,7 +74,7 @@ fn permuted(registers: &[u8], vlenb: usize, e: Elementwise, p: Permute, x: u64, 
     let vs2 = e.vs2;
     let vlmax = p.vlmax;
     match op {
-        PermutationOp::Vid => width::low(p.sew, i),
+        PermutationOp::Vid => Eew { bits: p.sew }.low(i),
         PermutationOp::Vslideup => vs2_at(registers, vlenb, vs2, vlmax, i - x),
         PermutationOp::Vslidedown => slid_down(registers, vlenb, vs2, vlmax, x, i),
         PermutationOp::Vslide1up => slid_1up(registers, vlenb, vs2, vlmax, x, i),
