@@ -108,8 +108,8 @@ pub fn wsub_w(sew: Eew, a: u64, b: u64) -> u64
 // ---- 12.3
 
 // vzext: a has sew / f bits, and its number stays.
-pub fn zext(f: u64, sew: Eew, a: u64) -> u64
-    ensures { result ≡ vzext f sew.bits a }
+pub fn zext(f: u64, sew: u64, a: u64) -> u64
+    ensures { result ≡ vzext f sew a }
 {
     a
 }
@@ -137,7 +137,7 @@ pub fn madc(sew: Eew, a: u64, b: u64, c: u64) -> u64
     requires { (a < 2 ^ sew.bits) × ((b < 2 ^ sew.bits) × (c < 2)) }
     ensures { result ≡ vmadc sew.bits a b c }
 {
-    msbc(sew, sew.ones() - a, b, c)
+    msbc(sew.bits, sew.ones() - a, b, c)
 }
 
 // vsbc: a - b less the borrow-in c, wrapped.
@@ -149,9 +149,9 @@ pub fn sbc(sew: Eew, a: u64, b: u64, c: u64) -> u64
 }
 
 // vmsbc: a < b + c with no sum, since b + 1 may not fit.
-pub fn msbc(sew: Eew, a: u64, b: u64, c: u64) -> u64
+pub fn msbc(sew: u64, a: u64, b: u64, c: u64) -> u64
     requires { c < 2 }
-    ensures { result ≡ vmsbc sew.bits a b c }
+    ensures { result ≡ vmsbc sew a b c }
 {
     if c == 0 {
         msltu(sew, a, b)
@@ -163,22 +163,22 @@ pub fn msbc(sew: Eew, a: u64, b: u64, c: u64) -> u64
 // ---- 12.5
 
 // vand
-pub fn and(sew: Eew, a: u64, b: u64) -> u64
-    ensures { result ≡ vand sew.bits a b }
+pub fn and(sew: u64, a: u64, b: u64) -> u64
+    ensures { result ≡ vand sew a b }
 {
     a & b
 }
 
 // vor
-pub fn or(sew: Eew, a: u64, b: u64) -> u64
-    ensures { result ≡ vor sew.bits a b }
+pub fn or(sew: u64, a: u64, b: u64) -> u64
+    ensures { result ≡ vor sew a b }
 {
     a | b
 }
 
 // vxor
-pub fn xor(sew: Eew, a: u64, b: u64) -> u64
-    ensures { result ≡ vxor sew.bits a b }
+pub fn xor(sew: u64, a: u64, b: u64) -> u64
+    ensures { result ≡ vxor sew a b }
 {
     a ^ b
 }
@@ -246,22 +246,22 @@ fn less(sew: Eew, a: u64, b: u64) -> bool
 }
 
 // vmseq: 1 where a is b.
-pub fn mseq(sew: Eew, a: u64, b: u64) -> u64
-    ensures { result ≡ vmseq sew.bits a b }
+pub fn mseq(sew: u64, a: u64, b: u64) -> u64
+    ensures { result ≡ vmseq sew a b }
 {
     u64::from(a == b)
 }
 
 // vmsne: 1 where it is not.
-pub fn msne(sew: Eew, a: u64, b: u64) -> u64
-    ensures { result ≡ vmsne sew.bits a b }
+pub fn msne(sew: u64, a: u64, b: u64) -> u64
+    ensures { result ≡ vmsne sew a b }
 {
     u64::from(a != b)
 }
 
 // vmsltu: 1 where a is less, both unsigned.
-pub fn msltu(sew: Eew, a: u64, b: u64) -> u64
-    ensures { result ≡ vmsltu sew.bits a b }
+pub fn msltu(sew: u64, a: u64, b: u64) -> u64
+    ensures { result ≡ vmsltu sew a b }
 {
     u64::from(a < b)
 }
@@ -275,8 +275,8 @@ pub fn mslt(sew: Eew, a: u64, b: u64) -> u64
 }
 
 // vmsleu: 1 where a is less or equal, both unsigned.
-pub fn msleu(sew: Eew, a: u64, b: u64) -> u64
-    ensures { result ≡ vmsleu sew.bits a b }
+pub fn msleu(sew: u64, a: u64, b: u64) -> u64
+    ensures { result ≡ vmsleu sew a b }
 {
     u64::from(a <= b)
 }
@@ -290,8 +290,8 @@ pub fn msle(sew: Eew, a: u64, b: u64) -> u64
 }
 
 // vmsgtu: 1 where b is less, both unsigned.
-pub fn msgtu(sew: Eew, a: u64, b: u64) -> u64
-    ensures { result ≡ vmsgtu sew.bits a b }
+pub fn msgtu(sew: u64, a: u64, b: u64) -> u64
+    ensures { result ≡ vmsgtu sew a b }
 {
     msltu(sew, b, a)
 }
@@ -307,8 +307,8 @@ pub fn msgt(sew: Eew, a: u64, b: u64) -> u64
 // ---- 12.9
 
 // vminu: the smaller, both unsigned.
-pub fn minu(sew: Eew, a: u64, b: u64) -> u64
-    ensures { result ≡ vminu sew.bits a b }
+pub fn minu(sew: u64, a: u64, b: u64) -> u64
+    ensures { result ≡ vminu sew a b }
 {
     a.min(b)
 }
@@ -322,8 +322,8 @@ pub fn min(sew: Eew, a: u64, b: u64) -> u64
 }
 
 // vmaxu: the larger, both unsigned.
-pub fn maxu(sew: Eew, a: u64, b: u64) -> u64
-    ensures { result ≡ vmaxu sew.bits a b }
+pub fn maxu(sew: u64, a: u64, b: u64) -> u64
+    ensures { result ≡ vmaxu sew a b }
 {
     a.max(b)
 }
@@ -339,15 +339,15 @@ pub fn max(sew: Eew, a: u64, b: u64) -> u64
 // ---- 12.15, 12.16
 
 // vmerge: b where the mask bit c is set, else a.
-pub fn merge(sew: Eew, a: u64, b: u64, c: u64) -> u64
-    ensures { result ≡ vmerge sew.bits a b c }
+pub fn merge(sew: u64, a: u64, b: u64, c: u64) -> u64
+    ensures { result ≡ vmerge sew a b c }
 {
     if c == 1 { b } else { a }
 }
 
 // vmv: b.
-pub fn mv(sew: Eew, b: u64) -> u64
-    ensures { result ≡ vmv sew.bits b }
+pub fn mv(sew: u64, b: u64) -> u64
+    ensures { result ≡ vmv sew b }
 {
     b
 }

@@ -94,7 +94,7 @@ impl Operation for And {
     ghost op = { Vand };
 
     fn apply(sew: Eew, a: u64, b: u64, _d: u64) -> u64 {
-        integer::and(sew, a, b)
+        integer::and(sew.bits, a, b)
     }
 }
 
@@ -102,7 +102,7 @@ impl Operation for Or {
     ghost op = { Vor };
 
     fn apply(sew: Eew, a: u64, b: u64, _d: u64) -> u64 {
-        integer::or(sew, a, b)
+        integer::or(sew.bits, a, b)
     }
 }
 
@@ -110,7 +110,7 @@ impl Operation for Xor {
     ghost op = { Vxor };
 
     fn apply(sew: Eew, a: u64, b: u64, _d: u64) -> u64 {
-        integer::xor(sew, a, b)
+        integer::xor(sew.bits, a, b)
     }
 }
 

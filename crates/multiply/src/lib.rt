@@ -57,8 +57,8 @@ pub fn divu(sew: Eew, a: u64, b: u64) -> u64
 }
 
 // vremu: the remainder; by 0, the dividend.
-pub fn remu(sew: Eew, a: u64, b: u64) -> u64
-    ensures { result ≡ vremu sew.bits a b }
+pub fn remu(sew: u64, a: u64, b: u64) -> u64
+    ensures { result ≡ vremu sew a b }
 {
     if b == 0 { a } else { a % b }
 }

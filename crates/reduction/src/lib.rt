@@ -22,12 +22,12 @@ fn joined(op: ReductionOp, sew: u64, acc: u64, x: u64) -> u64
     let sew = Eew { bits: sew };
     match op {
         ReductionOp::Vredsum => integer::add(sew, acc, x),
-        ReductionOp::Vredand => integer::and(sew, acc, x),
-        ReductionOp::Vredor => integer::or(sew, acc, x),
-        ReductionOp::Vredxor => integer::xor(sew, acc, x),
-        ReductionOp::Vredminu => integer::minu(sew, acc, x),
+        ReductionOp::Vredand => integer::and(sew.bits, acc, x),
+        ReductionOp::Vredor => integer::or(sew.bits, acc, x),
+        ReductionOp::Vredxor => integer::xor(sew.bits, acc, x),
+        ReductionOp::Vredminu => integer::minu(sew.bits, acc, x),
         ReductionOp::Vredmin => integer::min(sew, acc, x),
-        ReductionOp::Vredmaxu => integer::maxu(sew, acc, x),
+        ReductionOp::Vredmaxu => integer::maxu(sew.bits, acc, x),
         ReductionOp::Vredmax => integer::max(sew, acc, x),
         ReductionOp::Vwredsumu => integer::waddu(sew, acc, x),
         ReductionOp::Vwredsum => integer::wadd_w(sew, acc, x),
