@@ -178,6 +178,7 @@ pub struct Access {
     pub nf: u32,
 }
 
+// What a word names. A word that names nothing is one kind among nine, as `decode_of` has it, and no Option around the others.
 #[derive(Clone, Copy)]
 pub enum Instruction {
     Illegal,

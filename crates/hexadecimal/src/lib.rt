@@ -5,14 +5,14 @@
 ghost use Rattle.std.specs.Prelude.{◌≡◌, ◌||◌, ◌+◌, ◌≤◌, ◌<◌, ◌^◌, get_or};
 ghost use Rattle.hexadecimal.specs.Hexadecimal.{is_decimal, is_letter, digit_of, digits_at, number_at};
 
-// The byte at an index, and 0 past the end.
+// The byte at an index, and 0 past the end: no Option, as `digits_at` and the definitions of a sheet read 0 there (`get_or`).
 pub fn byte_at(s: &[u8], at: usize) -> u8
     ensures { result ≡ get_or s.now at 0 }
 {
     s.get(at).copied().unwrap_or(0)
 }
 
-// The value of a hex digit, and 0 of any other byte.
+// The value of a hex digit, and 0 of any other byte: no Option, as `digit_of` has it, and what is no digit is told by `digits`.
 #[tactic(auto, unfolding(crate::specs::Hexadecimal::digit_of))]
 pub fn digit(b: u8) -> u64
     ensures { (result ≡ digit_of b) × (result < 16) }

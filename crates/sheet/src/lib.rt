@@ -95,7 +95,7 @@ fn print_register(text: &mut Text, n: u64, high: u64, low: u64)
     print_value(text, high, low);
 }
 
-// The lines of all registers.
+// The lines of all registers. By number and not by chunks of the file: the number is printed, and `register_lines` goes by it.
 fn print_registers(text: &mut Text, registers: &[u8; 512])
     requires { text.old.at ≤ 2 ^ 22 }
     ensures { Adds text.old (register_lines registers.now 32) text.new × (text.new.at ≤ text.old.at + registers_bound) }
