@@ -1,5 +1,5 @@
-// The calls of the smaller board: each is that of the first board without `small_` in its name. They are twins since C has no board to pass,
-// and exported names stay.
+// The calls of the smaller board: each is that of the first board without `small_` in its name. They are twins since C has no board to
+// pass, and exported names stay.
 ghost use Rattle.std.specs.Prelude.{◌≡◌, length};
 ghost use Rattle.answer.specs.Answer.{number_of, answer_of};
 ghost use Rattle.control.specs.Board.{small};

@@ -30,7 +30,8 @@ impl Board {
 }
 
 // The control record (document 01, 'The machine on the screen'), with the status field VS of mstatus (document 02, A8): 0 Off, 1 Initial,
-// 2 Clean, 3 Dirty. Each field is a number and no enum: a record handed in may hold any, and 36 refuses those that can't be (`possible_of`).
+// 2 Clean, 3 Dirty. Each field is a number and no enum: a record handed in may hold any, and 36 refuses those that can't be
+// (`possible_of`).
 #[derive(Clone, Copy, PartialEq, Eq)]
 pub struct Control {
     pub vtype: u64,

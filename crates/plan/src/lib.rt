@@ -128,8 +128,8 @@ pub enum OneTurn {
     ScalarMove(ScalarMove),
 }
 
-// What a decoded word means: nothing, something that takes one turn, or elements. `Illegal` is one of the three and no Option around two: each
-// match on a plan names what it gives of it (`legal_of`, `plan_turn`).
+// What a decoded word means: nothing, something that takes one turn, or elements. `Illegal` is one of the three and no Option around two:
+// each match on a plan names what it gives of it (`legal_of`, `plan_turn`).
 #[derive(Clone, Copy)]
 pub enum Plan {
     Illegal,

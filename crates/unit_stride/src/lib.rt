@@ -128,8 +128,8 @@ pub fn unmasked(rights: &[u8], memory: usize, t: Transfer, vstart: u64, remainin
 
 // ---- masked: one element after the other
 
-// The pages so far: how many there are, and the page after the last of them. With none it is 0, which bounds the next from below as any other
-// does, so that it is no Option.
+// The pages so far: how many there are, and the page after the last of them. With none it is 0, which bounds the next from below as any
+// other does, so that it is no Option.
 #[derive(Clone, Copy)]
 struct Tally {
     pages: u64,
