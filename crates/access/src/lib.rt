@@ -2,7 +2,7 @@
 
 #![tactic(auto)]
 
-ghost use Rattle.std.specs.Prelude.{◌≡◌, suc, ◌%◌, ◌≤◌, T, length, ◌==◌};
+ghost use Rattle.std.specs.Prelude.{◌≡◌, suc, ◌%◌, ◌≤◌, T, ◌==◌};
 ghost use Rattle.layout.specs.Layout.{byte_size};
 ghost use Rattle.access.specs.Access.{nowhere, fault_at, needed, misaligned, denied, access_of, fields_access};
 
@@ -92,8 +92,8 @@ pub fn aligned(a: u64, n: u64) -> bool
 }
 
 // The element of n bytes at address a, in a memory of so many bytes.
-pub fn access(rights: &[u8], memory: usize, store: bool, a: u64, n: u64) -> Result<(), Fault>
-    requires { (length rights.now ≡ 256) × ((memory ≤ 65536) × T (byte_size n)) }
+pub fn access(rights: &[u8; 256], memory: usize, store: bool, a: u64, n: u64) -> Result<(), Fault>
+    requires { (memory ≤ 65536) × T (byte_size n) }
     ensures { result ≡ access_of rights.now memory store a n }
 {
     if !aligned(a, n) {
@@ -117,14 +117,14 @@ pub fn access(rights: &[u8], memory: usize, store: bool, a: u64, n: u64) -> Resu
 
 // The fields of a segment, each of n bytes, upward from the one at address a; nf of them follow it.
 pub fn segment(
-    rights: &[u8],
+    rights: &[u8; 256],
     memory: usize,
     store: bool,
     a: u64,
     n: u64,
     nf: u32,
 ) -> Result<(), Fault>
-    requires { (length rights.now ≡ 256) × ((memory ≤ 65536) × T (byte_size n)) }
+    requires { (memory ≤ 65536) × T (byte_size n) }
     ensures { result ≡ fields_access rights.now memory store a n 0 (suc nf) }
 {
     let mut field = a;

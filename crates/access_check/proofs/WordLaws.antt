@@ -189,13 +189,12 @@ module _ (b : Board) (file x memory rights : List ℕ) (c : Control) (e : Elemen
       let fit = elements-fit b c e (elements-of-legal b c e (the_facts b e file x memory rights c 0 l).legal) in
       omega (arith, rest, unit-plan.short fit, (valid b).most)
 
-  pub is-packed : (t : Transfer) → e.action ≡ A.Transfer t → Packed rights (length memory) t c.vstart (e.end - c.vstart)
+  pub is-packed : (t : Transfer) → e.action ≡ A.Transfer t → Packed (length memory) t c.vstart (e.end - c.vstart)
   is-packed t q =
       let a = (the_facts b e file x memory rights c 0 l).acceptable in
-      subst (λ (y : Transfer). Packed rights (length memory) y c.vstart (e.end - c.vstart))
+      subst (λ (y : Transfer). Packed (length memory) y c.vstart (e.end - c.vstart))
       (one-transfer e.action unit-plan.transfer t unit-plan.stepping.action q)
       (record {
-        rights-length = a.rights-length;
         memory-length = a.memory-length;
         size = unit-plan.size;
         stride = unit-plan.stride;
@@ -257,7 +256,7 @@ module _ (b : Board) (word : ℕ) (file x memory rights : List ℕ) (c : Control
         planned = (elements-planned b x c d p w e f).0
 
         pub elements-ready :
-            ((t : Transfer) → e.action ≡ A.Transfer t → Packed rights (length memory) t c.vstart (e.end - c.vstart))
+            ((t : Transfer) → e.action ≡ A.Transfer t → Packed (length memory) t c.vstart (e.end - c.vstart))
             × MaskInside (length file) b.vlenb c.vstart (e.end - c.vstart)
         elements-ready =
             let fits = decoded-fits word d k in (

@@ -64,12 +64,12 @@ fn is_unit_stride(instruction: Instruction) -> bool
 fn elements(
     board: Board,
     registers: &[u8],
-    rights: &[u8],
+    rights: &[u8; 256],
     memory: usize,
     vstart: u64,
     e: Elementwise,
 ) -> Checked
-    requires { ((t : Transfer) → e.action ≡ Act.Transfer t → Packed rights.now memory t vstart (e.end - vstart))
+    requires { ((t : Transfer) → e.action ≡ Act.Transfer t → Packed memory t vstart (e.end - vstart))
         × MaskInside (length registers.now) board.vlenb vstart (e.end - vstart) }
     ensures { (t : Transfer) → e.action ≡ Act.Transfer t
         → Tested (active_of board.vlenb registers.now e.masked) rights.now memory t vstart
@@ -120,6 +120,9 @@ pub fn check(
         return nothing_tested(Answer::Illegal);
     }
     let Ok(scalars) = <&[u64; 32]>::try_from(scalars) else {
+        unreachable!()
+    };
+    let Ok(rights) = <&[u8; 256]>::try_from(rights) else {
         unreachable!()
     };
     match legality::checked(board, scalars, control, instruction) {

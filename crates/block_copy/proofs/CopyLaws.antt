@@ -216,17 +216,16 @@ goes_on false ordered h = (refl, not-false ordered h)
 abbrev place_of : Board → Elementwise → Transfer → ℕ → ℕ
 place_of b e t v = b.vlenb * e.dest.reg + v * t.bytes
 
-module _ (b : Board) (rights : List ℕ) (size memory : ℕ) (e : Elementwise) (t : Transfer) (v n : ℕ)
-    (g : Copyable b size rights memory e t v n) (i : Bool) (k : i ≡ in_order_of e t) (h : (eqb n 0 || not i) ≡ false) where
+module _ (b : Board) (size memory : ℕ) (e : Elementwise) (t : Transfer) (v n : ℕ)
+    (g : Copyable b size memory e t v n) (i : Bool) (k : i ≡ in_order_of e t) (h : (eqb n 0 || not i) ≡ false) where
   are-ordered : Ordered e t
   are-ordered = in_order e t (sym k ∙ (goes_on (eqb n 0) i h).1)
 
   some : 1 ≤ n
   some = let z : n ≡ 0 → ⊥ = eqb-false n 0 (goes_on (eqb n 0) i h).0 in omega arith
 
-  pub is-packed : Packed rights memory t v n
+  pub is-packed : Packed memory t v n
   is-packed = record {
-    rights-length = g.rights-length;
     memory-length = g.memory-length;
     size = g.bytes some;
     stride = are-ordered.stride;
@@ -242,14 +241,14 @@ module _ (b : Board) (rights : List ℕ) (size memory : ℕ) (e : Elementwise) (
       let all : n ≡ suc (n - 1) = omega (arith, some) in
       rw all (omega arith)
 
-  module _ (a : ℕ) (p : a ≡ element_address t v 0) (r : Bool) (y : AllGranted rights memory t v n r) (u : r ≡ true) where
+  module _ (rights : List ℕ) (a : ℕ) (p : a ≡ element_address t v 0) (r : Bool) (y : AllGranted rights memory t v n r) (u : r ≡ true) where
     begins : a + t.bytes ≤ memory
     begins =
         rw p (rw (add-zero v) at (granted-facts rights memory t.store (element_address t (v + 0) 0) t.bytes (y.each u 0 some)).inside)
 
     address : (j : ℕ) → j < n → a + j * t.bytes ≡ element_address t (v + j) 0
     address j l =
-        rw p (sym (onward rights memory t v n is-packed v j (omega (arith, g.few)) (rw (← p) (omega (arith, begins)))))
+        rw p (sym (onward memory t v n is-packed v j (omega (arith, g.few)) (rw (← p) (omega (arith, begins)))))
 
     element-granted : (j : ℕ) → j < n → access_of rights memory t.store (a + j * t.bytes) t.bytes ≡ Ok tt
     element-granted j l = rw (address j l) (y.each u j l)
@@ -265,7 +264,7 @@ module _ (b : Board) (rights : List ℕ) (size memory : ℕ) (e : Elementwise) (
 -- ---- the copy moves them
 
 module _ (b : Board) (rights file memory : List ℕ) (e : Elementwise) (t : Transfer) (v n : ℕ)
-    (g : Copyable b (length file) rights (length memory) e t v n) (i : Bool) (k : i ≡ in_order_of e t) (h : (eqb n 0 || not i) ≡ false)
+    (g : Copyable b (length file) (length memory) e t v n) (i : Bool) (k : i ≡ in_order_of e t) (h : (eqb n 0 || not i) ≡ false)
     (a : ℕ) (p : a ≡ element_address t v 0) (r : Bool) (y : AllGranted rights (length memory) t v n r) (u : r ≡ true)
     (w : Bytes file) (z : Bytes memory) (x : List ℕ) (c : Control) where
   abbrev at : ℕ
@@ -280,10 +279,10 @@ module _ (b : Board) (rights file memory : List ℕ) (e : Elementwise) (t : Tran
       subst (Ran b rights e v (core_at file memory x c) 0) (sym (rw nil (nothing-moved file memory at a t.store x c))) none
   ran (suc j) l =
       more j (after j) (after (suc j)) (ran j (omega arith))
-      (element-moved b rights _ _ _ _ e t (are-ordered b rights (length file) (length memory) e t v n g i k h) g.action
+      (element-moved b rights _ _ _ _ e t (are-ordered b (length file) (length memory) e t v n g i k h) g.action
       (rw same g.memory-length) (v + j) (a + j * t.bytes)
-      (address b rights (length file) (length memory) e t v n g i k h a p r y u j l)
-      (rw same (element-granted b rights (length file) (length memory) e t v n g i k h a p r y u j l))
+      (address b (length file) (length memory) e t v n g i k h rights a p r y u j l)
+      (rw same (element-granted b (length file) (length memory) e t v n g i k h rights a p r y u j l))
       (rw eew (file-next file memory at a b.vlenb e.dest.reg v t.bytes j refl t.store z))
       (rw eew (memory-next file memory at a b.vlenb e.dest.reg v t.bytes j refl t.store w)) x c)
     where

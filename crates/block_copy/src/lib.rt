@@ -33,8 +33,8 @@ fn in_order(e: Elementwise, t: Transfer) -> bool
 }
 
 // Whether none of the n elements from element v up faults.
-fn granted(rights: &[u8], memory: usize, t: Transfer, v: u64, n: u64) -> bool
-    requires { Packed rights.now memory t v n }
+fn granted(rights: &[u8; 256], memory: usize, t: Transfer, v: u64, n: u64) -> bool
+    requires { Packed memory t v n }
     ensures { AllGranted rights.now memory t v n result }
 {
     let checked = unit_stride::unmasked(rights, memory, t, v, n);
@@ -46,14 +46,14 @@ fn granted(rights: &[u8], memory: usize, t: Transfer, v: u64, n: u64) -> bool
 pub fn transferred(
     registers: &mut [u8],
     memory: &mut [u8],
-    rights: &[u8],
+    rights: &[u8; 256],
     board: Board,
     e: Elementwise,
     t: Transfer,
     v: u64,
     n: u64,
 ) -> bool
-    requires { Copyable board (length registers.old) rights.now (length memory.old) e t v n }
+    requires { Copyable board (length registers.old) (length memory.old) e t v n }
     ensures { (x : List ℕ) (c : Control) → Attempted board rights.now e v n
         (core_at registers.old memory.old x c) result (core_at registers.new memory.new x c) }
 {

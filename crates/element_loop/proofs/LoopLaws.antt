@@ -162,9 +162,6 @@ module _ (b : Board) (e : Elementwise) (registers₀ scalars memory₀ rights : 
     pub end_fits : Fits w64 e.end
     end_fits = record { fits = omega (arith, the-sound.end, (valid b).most) }
 
-    pub rights-length : length rights ≡ 256
-    rights-length = the_facts.acceptable.rights-length
-
     -- what a turn that ends so leaves
     ended : (r : Turned) (registers memory : List ℕ) (o : TurnEnd J) → turn J the-turn the-point ≡ o
         → left r registers scalars memory rights ≡ outcome_of b (P.Elements e) rights o
@@ -182,7 +179,7 @@ module _ (b : Board) (e : Elementwise) (registers₀ scalars memory₀ rights : 
       memory-bound = rw g.memory-length the_facts.acceptable.memory-length
 
       pub next-steppable : (remaining most : ℕ) (a : Action) → remaining ≡ e.end - c.vstart → most ≡ min allowance remaining → k < most
-          → e.action ≡ a → Steppable b registers memory rights e (c.vstart + k) a
+          → e.action ≡ a → Steppable b registers memory e (c.vstart + k) a
       next-steppable remaining most a u v h q =
           let p = next-prepared (c.vstart + k) (omega arith) in
           record {
@@ -191,7 +188,6 @@ module _ (b : Board) (e : Elementwise) (registers₀ scalars memory₀ rights : 
             fits = subst (ActionFits b.vlenb registers e (c.vstart + k)) q (p.action registers g.bytes);
             registers-length = file-length;
             memory-length = memory-bound;
-            rights-length = rights-length;
           }
 
       pub stop-fits : (remaining most : ℕ) → remaining ≡ e.end - c.vstart → most ≡ min allowance remaining → Fits w64 c.vstart

@@ -8,14 +8,13 @@ use Rattle.plan.specs.declared.Elementwise.{Elementwise}
 use Rattle.machine.specs.Effect.{saturating, effect_of}
 use Rattle.execute.specs.Step.{Ready, ActionFits, core_at, Did}
 
--- element i of a plan whose action is a can be carried out in these registers, this memory and these rights
-pub record Steppable (b : Board) (registers memory rights : List ℕ) (e : Elementwise) (i : ℕ) (a : Action) : Type 0 where
+-- element i of a plan whose action is a can be carried out in these registers and this memory
+pub record Steppable (b : Board) (registers memory : List ℕ) (e : Elementwise) (i : ℕ) (a : Action) : Type 0 where
   pub action : e.action ≡ a
   pub ready : Ready (length registers) b.vlenb e i
   pub fits : ActionFits b.vlenb registers e i a
   pub registers-length : length registers ≡ 32 * b.vlenb
   pub memory-length : length memory ≤ 65536
-  pub rights-length : length rights ≡ 256
 
 -- what comes of it, whether it saturates or its fault, as the access test says it, and the control record that it leaves
 abbrev pub tested_as : Result Bool Fault → Result ⊤ Fault

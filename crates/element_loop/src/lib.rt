@@ -91,11 +91,11 @@ trait Step: Copy {
         board: Board,
         registers: &mut [u8],
         memory: &mut [u8],
-        rights: &[u8],
+        rights: &[u8; 256],
         e: Elementwise,
         i: usize,
     ) -> Result<bool, Fault>
-        requires { Steppable board registers.old memory.old rights.now e i (action self) }
+        requires { Steppable board registers.old memory.old e i (action self) }
         ensures { Stepped board rights.now e i registers.old memory.old result registers.new memory.new };
 }
 
@@ -107,7 +107,7 @@ impl Step for Compute {
         board: Board,
         registers: &mut [u8],
         _memory: &mut [u8],
-        _rights: &[u8],
+        _rights: &[u8; 256],
         e: Elementwise,
         i: usize,
     ) -> Result<bool, Fault> {
@@ -123,7 +123,7 @@ impl Step for Permute {
         board: Board,
         registers: &mut [u8],
         _memory: &mut [u8],
-        _rights: &[u8],
+        _rights: &[u8; 256],
         e: Elementwise,
         i: usize,
     ) -> Result<bool, Fault> {
@@ -140,7 +140,7 @@ impl Step for Transfer {
         board: Board,
         registers: &mut [u8],
         memory: &mut [u8],
-        rights: &[u8],
+        rights: &[u8; 256],
         e: Elementwise,
         i: usize,
     ) -> Result<bool, Fault> {
@@ -155,7 +155,7 @@ fn upward<S: Step>(
     registers: &mut [u8],
     scalars: &[u64],
     memory: &mut [u8],
-    rights: &[u8],
+    rights: &[u8; 256],
     control: Control,
     allowance: u64,
     e: Elementwise,
@@ -187,7 +187,7 @@ pub fn elements(
     registers: &mut [u8],
     scalars: &[u64],
     memory: &mut [u8],
-    rights: &[u8],
+    rights: &[u8; 256],
     control: Control,
     allowance: u64,
     e: Elementwise,

@@ -159,7 +159,7 @@ fn move_fields(
 fn transfer(
     registers: &mut [u8],
     memory: &mut [u8],
-    rights: &[u8],
+    rights: &[u8; 256],
     vlenb: usize,
     store: bool,
     dest: Group,
@@ -169,7 +169,7 @@ fn transfer(
 ) -> Result<(), Fault>
     requires { FieldsInside (length registers.old) vlenb dest i
         × ((dest.reg + span_of dest ≤ 32)
-        × ((length rights.now ≡ 256) × ((length memory.old ≤ 65536) × T (byte_size n)))) }
+        × ((length memory.old ≤ 65536) × T (byte_size n))) }
     ensures { (x : List ℕ) (c : Control) → Did vlenb
         (transferring vlenb rights.now (core_at registers.old memory.old x c) store dest n i a)
         (core_at registers.old memory.old x c) result (core_at registers.new memory.new x c) }
@@ -185,15 +185,14 @@ fn transfer(
 pub fn transfer_element(
     registers: &mut [u8],
     memory: &mut [u8],
-    rights: &[u8],
+    rights: &[u8; 256],
     board: Board,
     e: Elementwise,
     t: Transfer,
     i: usize,
 ) -> Result<(), Fault>
     requires { Ready (length registers.old) board.vlenb e i
-        × ((length rights.now ≡ 256)
-        × ((length memory.old ≤ 65536) × (T (byte_size t.bytes) × (e.action ≡ Act.Transfer t)))) }
+        × ((length memory.old ≤ 65536) × (T (byte_size t.bytes) × (e.action ≡ Act.Transfer t))) }
     ensures { (x : List ℕ) (c : Control) → Did board.vlenb
         (effect_of board rights.now (core_at registers.old memory.old x c) e i)
         (core_at registers.old memory.old x c) result (core_at registers.new memory.new x c) }

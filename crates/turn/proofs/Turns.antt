@@ -55,6 +55,9 @@ module _ (b : Board) (registers scalars memory : ℕ) (rights : List ℕ) (c : C
   pub accepted-scalars : scalars ≡ 32
   accepted-scalars = (accepted-facts b registers scalars memory rights c accepted).scalars-length
 
+  pub accepted-rights : length rights ≡ 256
+  accepted-rights = (accepted-facts b registers scalars memory rights c accepted).rights-length
+
   -- with vill set, SEW by its bits is 8
   pub accepted-sew : sew_of c.vtype ≤ 64
   accepted-sew =

@@ -66,6 +66,9 @@ pub fn turn(
     let Some(scalars) = scalars.first_chunk_mut::<32>() else {
         unreachable!()
     };
+    let Ok(rights) = <&[u8; 256]>::try_from(rights) else {
+        unreachable!()
+    };
     match legality::checked(board, scalars, control, decode::decode(word)) {
         Plan::Illegal => answered(Answer::Illegal, control),
         Plan::OneTurn(t) => finished(one_turn::perform(board, registers, scalars, control, t)),

@@ -143,11 +143,11 @@ module _ (active : ℕ → Bool) (rights : List ℕ) (memory : ℕ) (t : Transfe
   found zero = record { result = _; tested = none-faults (λ j l. absurd (omega arith)) }
   found (suc m) = found-next m (test_of active rights memory t (v + m)) refl (found m)
 
-  module _ (n : ℕ) (g : Packed rights memory t v n) where
+  module _ (n : ℕ) (g : Packed memory t v n) where
     near-pages : (i j : ℕ) → i ≤ j → j < n → inside (v + i) ≡ true
         → (page (v + i) ≤ page (v + j)) × (page (v + j) ≤ suc (page (v + i)))
     near-pages i j l m h =
-        let o = later rights memory t v n g i j l m h in
+        let o = later memory t v n g i j l m h in
         let d : (j - i) * t.bytes ≤ n * t.bytes = mul-le-mul_right t.bytes (omega arith) in
         (omega (arith, o), omega (arith, o, d, g.short))
 

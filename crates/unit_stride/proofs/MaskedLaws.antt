@@ -54,10 +54,10 @@ module _ (active : ℕ → Bool) (rights : List ℕ) (memory : ℕ) (t : Transfe
     ascending = λ j l m h. omega arith;
   }
 
-  module _ (g : Packed rights memory t v n) where
+  module _ (g : Packed memory t v n) where
     -- addresses of elements inside memory ascend, and so do their pages
     later-page : (k j : ℕ) → k ≤ j → j < n → inside (v + k) ≡ true → page (v + k) ≤ page (v + j)
-    later-page k j l m h = omega (arith, later rights memory t v n g k j l m h)
+    later-page k j l m h = omega (arith, later memory t v n g k j l m h)
 
     module _ (k : ℕ) (c : Tally) (w : Walking k c) (l : k < n) where
       -- the tally with element k, of which the page is tested where it is active

@@ -2,7 +2,6 @@
 use Prim.Native.Nat.{ℕ, ◌+◌, ◌-◌, ◌*◌, ◌%◌, ◌^◌, ◌≤◌, ◌<◌}
 use mathlib.Core.Path.{◌≡◌, sym, ap, ◌∙◌}
 use mathlib.Core.Bool.{true, false}
-use mathlib.Core.List.{List}
 use native.Mathlib.Omega.{arith}
 use native.Mathlib.Nat.{mod-eq_of_lt, mul-le-mul_right}
 use lib.Dec.{T, eqb}
@@ -32,7 +31,7 @@ module _ (memory a n : ℕ) where
 pub size-most : (n : ℕ) → T (byte_size n) → n ≤ 8
 size-most n t = size-elim (λ k. k ≤ 8) (omega arith) (omega arith) (omega arith) (omega arith) n t
 
-module _ (rights : List ℕ) (memory : ℕ) (t : Transfer) (v n : ℕ) (g : Packed rights memory t v n) where
+module _ (memory : ℕ) (t : Transfer) (v n : ℕ) (g : Packed memory t v n) where
   abbrev address : ℕ → ℕ
   address i = element_address t i 0
 

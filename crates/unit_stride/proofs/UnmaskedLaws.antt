@@ -75,7 +75,14 @@ module _ (rights : List ℕ) (right first last : ℕ) where
 
 -- ---- the access
 
-module _ (rights : List ℕ) (memory : ℕ) (t : Transfer) (v n : ℕ) (g : Packed rights memory t v n) where
+pub some-remain : (n : ℕ) → (n ≡ 0 → ⊥) → 1 ≤ n
+some-remain n z = omega arith
+
+pub begins : (t : Transfer) (v start : ℕ) → start ≡ element_address t v 0 → (aligned : Bool) → aligned ≡ eqb (start % t.bytes) 0 → aligned ≡ true
+    → Begins t v start
+begins t v start q aligned e f = record { begins = q; aligned = is-aligned start t.bytes aligned e f }
+
+module _ (rights : List ℕ) (memory : ℕ) (t : Transfer) (v n : ℕ) (g : Packed memory t v n) where
   abbrev page : ℕ → ℕ
   page i = page_of (element_address t i 0)
 
@@ -84,9 +91,6 @@ module _ (rights : List ℕ) (memory : ℕ) (t : Transfer) (v n : ℕ) (g : Pack
       → Tested all rights memory t v n (record { answer = Finished; element = 0; pages = 0; wanted = nothing_wanted })
   unfolding different_pages
   nothing-remains z = finishes all rights memory t v n 0 (λ j l. absurd (omega arith)) (rw z)
-
-  pub some-remain : (n ≡ 0 → ⊥) → 1 ≤ n
-  some-remain z = omega arith
 
   module _ (start : ℕ) (q : start ≡ element_address t v 0) where
     first-address : element_address t (v + 0) 0 ≡ start
@@ -103,9 +107,6 @@ module _ (rights : List ℕ) (memory : ℕ) (t : Transfer) (v n : ℕ) (g : Pack
         (sym (faults-misaligned rights memory t.store start t.bytes _ (misaligned t.store) aligned e f refl refl)))
         (sym p) refl (add-zero v)
         (rw (first-address, sym e ∙ f))
-
-    pub begins : (aligned : Bool) → aligned ≡ eqb (start % t.bytes) 0 → aligned ≡ true → Begins t v start
-    begins aligned e f = record { begins = q; aligned = is-aligned start t.bytes aligned e f }
 
   -- so many lie inside memory
   module _ (start inside d : ℕ) (h : Begins t v start) (less : d ≡ memory - start) (smaller : inside ≡ min n (d / t.bytes)) where
@@ -124,7 +125,7 @@ module _ (rights : List ℕ) (memory : ℕ) (t : Transfer) (v n : ℕ) (g : Pack
 
     here : (j : ℕ) → j ≤ n → start ≤ memory → element_address t (v + j) 0 ≡ at j
     here j l m =
-        onward rights memory t v n g v j (omega (arith, g.few)) (rw (← h.begins) m)
+        onward memory t v n g v j (omega (arith, g.few)) (rw (← h.begins) m)
         ∙ ap (λ (s : ℕ). s + j * t.bytes) (sym h.begins)
 
     there : (j : ℕ) → j < inside → element_address t (v + j) 0 ≡ at j

@@ -1,6 +1,6 @@
 -- For contracts of inner functions, not to be believed: what comes of testing the elements of a unit-stride access, by pages or one after
 -- the other, and what these functions rely on.
-use Rattle.std.specs.Prelude.{ℕ, suc, ◌+◌, ◌*◌, ◌%◌, ◌≤◌, ◌<◌, ◌≡◌, Bool, true, ◌&&◌, cond, List, length, get_or, T, leb}
+use Rattle.std.specs.Prelude.{ℕ, suc, ◌+◌, ◌*◌, ◌%◌, ◌≤◌, ◌<◌, ◌≡◌, Bool, true, ◌&&◌, cond, List, get_or, T, leb}
 use Rattle.std.specs.Prelude.{Result, Ok, Err, ⊤}
 use Rattle.width.specs.Width.{flag}
 use Rattle.answer.specs.declared.Answer.TheVariants.{Finished}
@@ -14,8 +14,7 @@ use Rattle.unit_stride.specs.declared.Tally.{Tally}
 use Rattle.unit_stride.specs.Pages.{different_pages, page_tested}
 
 -- the n elements of a unit-stride access from element v up
-pub record Packed (rights : List ℕ) (memory : ℕ) (t : Transfer) (v n : ℕ) : Type 0 where
-  pub rights-length : length rights ≡ 256
+pub record Packed (memory : ℕ) (t : Transfer) (v n : ℕ) : Type 0 where
   pub memory-length : memory ≤ 65536
   pub size : T (byte_size t.bytes)
   pub stride : t.stride ≡ t.bytes

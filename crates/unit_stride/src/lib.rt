@@ -43,8 +43,8 @@ impl Checked {
 
 // The first of the pages from `first` to `last` that lacks the right, or the page after them. At most two are asked for.
 // It is no Option, since `FirstClosed` (specs/Tested) speaks of the page after them.
-fn first_closed(rights: &[u8], right: u8, first: u64, last: u64) -> u64
-    requires { (length rights.now ≡ 256) × ((first ≤ last) × ((last ≤ first + 1) × (last < 256))) }
+fn first_closed(rights: &[u8; 256], right: u8, first: u64, last: u64) -> u64
+    requires { (first ≤ last) × ((last ≤ first + 1) × (last < 256)) }
     ensures { FirstClosed rights.now right first last result }
 {
     for page in first..=last {
@@ -57,14 +57,14 @@ fn first_closed(rights: &[u8], right: u8, first: u64, last: u64) -> u64
 
 // The elements from the address `start` on, which is aligned: how many of them lie inside memory, and the pages of these.
 fn by_pages(
-    rights: &[u8],
+    rights: &[u8; 256],
     memory: usize,
     t: Transfer,
     vstart: u64,
     remaining: u64,
     start: u64,
 ) -> Checked
-    requires { Packed rights.now memory t vstart remaining × (Begins t vstart start × (1 ≤ remaining)) }
+    requires { Packed memory t vstart remaining × (Begins t vstart start × (1 ≤ remaining)) }
     ensures { Tested all rights.now memory t vstart remaining result }
 {
     let size = t.bytes;
@@ -107,8 +107,14 @@ fn by_pages(
 }
 
 // All elements are active: the start's alignment, the end of memory, and each page once.
-pub fn unmasked(rights: &[u8], memory: usize, t: Transfer, vstart: u64, remaining: u64) -> Checked
-    requires { Packed rights.now memory t vstart remaining }
+pub fn unmasked(
+    rights: &[u8; 256],
+    memory: usize,
+    t: Transfer,
+    vstart: u64,
+    remaining: u64,
+) -> Checked
+    requires { Packed memory t vstart remaining }
     ensures { Tested all rights.now memory t vstart remaining result }
 {
     if remaining == 0 {
@@ -163,8 +169,8 @@ fn page_tested(memory: usize, a: u64, n: u64) -> bool
 }
 
 // An element that is active or not.
-fn test(rights: &[u8], memory: usize, t: Transfer, active: bool, a: u64) -> Result<(), Fault>
-    requires { (length rights.now ≡ 256) × ((memory ≤ 65536) × T (byte_size t.bytes)) }
+fn test(rights: &[u8; 256], memory: usize, t: Transfer, active: bool, a: u64) -> Result<(), Fault>
+    requires { (memory ≤ 65536) × T (byte_size t.bytes) }
     ensures { result ≡ cond active (access_of rights.now memory t.store a t.bytes) (Ok tt) }
 {
     if !active {
@@ -177,13 +183,13 @@ fn test(rights: &[u8], memory: usize, t: Transfer, active: bool, a: u64) -> Resu
 fn walked(
     registers: &[u8],
     vlenb: usize,
-    rights: &[u8],
+    rights: &[u8; 256],
     memory: usize,
     t: Transfer,
     vstart: u64,
     remaining: u64,
 ) -> Checked
-    requires { Packed rights.now memory t vstart remaining × MaskInside (length registers.now) vlenb vstart remaining }
+    requires { Packed memory t vstart remaining × MaskInside (length registers.now) vlenb vstart remaining }
     ensures { Tested (active_of vlenb registers.now true) rights.now memory t vstart remaining result }
 {
     let mut tally = Tally { pages: 0, next: 0 };
@@ -211,14 +217,14 @@ fn walked(
 pub fn tested(
     board: Board,
     registers: &[u8],
-    rights: &[u8],
+    rights: &[u8; 256],
     memory: usize,
     masked: bool,
     t: Transfer,
     vstart: u64,
     remaining: u64,
 ) -> Checked
-    requires { Packed rights.now memory t vstart remaining × MaskInside (length registers.now) board.vlenb vstart remaining }
+    requires { Packed memory t vstart remaining × MaskInside (length registers.now) board.vlenb vstart remaining }
     ensures { Tested (active_of board.vlenb registers.now masked) rights.now memory t vstart remaining result }
 {
     if masked {

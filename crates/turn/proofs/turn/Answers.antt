@@ -1,5 +1,5 @@
 use native.Mathlib.Omega.{arith}
-use Rattle.turn.proofs.Turns.{accepted-scalars, accepted-sew, accepted-vl, all-lent, all-left, decoded-fits}
+use Rattle.turn.proofs.Turns.{accepted-scalars, accepted-rights, accepted-sew, accepted-vl, all-lent, all-left, decoded-fits}
 use Rattle.turn.proofs.Turns.{refused-word, illegal-word, one-turn-performable, one-turn-word, elements-runnable, elements-word}
 use Rattle.turn.proofs.turn.Goals as goal
 
@@ -10,6 +10,10 @@ pub unreachable-requires : goal.unreachable-requires
 unreachable-requires c =
     let count = accepted-scalars _ _ _ _ _ _ _ c.refusal-refused.ensures c.in_default.is in
     omega (arith, count, c.in_default-first_chunk_mut.ensures.cases)
+
+pub unreachable-requires-in_default-try_from : goal.unreachable-requires-in_default-try_from
+unreachable-requires-in_default-try_from c =
+    c.in_default-try_from.ensures.1 (accepted-rights _ _ _ _ _ _ _ c.refusal-refused.ensures c.in_default.is)
 
 pub checked-requires : goal.checked-requires
 checked-requires c = (search accepted-sew, (search accepted-vl, search decoded-fits))
@@ -25,7 +29,7 @@ pub elements-requires : goal.elements-requires
 elements-requires c =
     let count = accepted-scalars _ _ _ _ _ _ _ c.refusal-refused.ensures c.in_default.is in
     let lent = all-lent _ count _ c.in-Some.ensures.cases in
-    rw lent (elements-runnable _ _ _ _ _ _ _ _ _ _ c.refusal-refused.ensures c.in_default.is
+    rw (lent, c.in-Ok.ensures.1.same) (elements-runnable _ _ _ _ _ _ _ _ _ _ c.refusal-refused.ensures c.in_default.is
     c.decode.ensures (rw lent at c.checked.ensures) _ c.in-Elements.is)
 
 pub returns-in-Illegal : goal.returns-in-Illegal
@@ -51,4 +55,4 @@ returns-in-Elements c =
     let lent = all-lent _ count _ c.in-Some.ensures.cases in
     rw (all-left c.args.scalars.now count c.in-Some.scalars.now, lent)
     (elements-word _ _ _ _ _ _ _ _ _ _ c.refusal-refused.ensures c.in_default.is
-    c.decode.ensures (rw lent at c.checked.ensures) _ _ _ c.in-Elements.is (rw lent at c.elements.ensures))
+    c.decode.ensures (rw lent at c.checked.ensures) _ _ _ c.in-Elements.is (rw (lent, c.in-Ok.ensures.1.same) at c.elements.ensures))

@@ -5,5 +5,5 @@ pub transfer_element-requires : goal.transfer_element-requires
 unfolding ActionFits
 transfer_element-requires c = (
   c.requires.ready,
-  (c.requires.rights-length, (c.requires.memory-length, (c.requires.fits, c.requires.action))),
+  (c.requires.memory-length, (c.requires.fits, c.requires.action)),
 )
