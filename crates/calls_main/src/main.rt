@@ -133,6 +133,8 @@ fn main(rt: HostRuntime) -> io::Result<()> {
             b'V' => views(&mut output, Board::SMALL, &line, &file)?,
             _ => break,
         }
+        // what is said of this line stands in the output before the next is read
+        output.flush()?;
     }
-    output.flush()
+    Ok(())
 }

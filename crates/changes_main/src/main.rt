@@ -252,6 +252,8 @@ fn main(rt: HostRuntime) -> io::Result<()> {
             break;
         };
         case.follow(line, &mut output)?;
+        // what is said of this line stands in the output before the next is read
+        output.flush()?;
     }
-    output.flush()
+    Ok(())
 }

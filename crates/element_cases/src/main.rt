@@ -70,6 +70,8 @@ fn main(rt: HostRuntime) -> io::Result<()> {
             break;
         };
         print(&mut output, outcome(&line))?;
+        // what is said of this line stands in the output before the next is read
+        output.flush()?;
     }
-    output.flush()
+    Ok(())
 }

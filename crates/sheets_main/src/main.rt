@@ -48,17 +48,18 @@ fn run_sheet(alloc: Global, sheet: &[u8], output: &mut impl Write) -> io::Result
 }
 
 // The bytes of the next sheet, as far as the input has them; none where there is no length, or it is above the room.
-fn next_sheet(alloc: Global, input: &mut impl Read) -> io::Result<Option<Vec<u8>>> {
+fn next_sheet(alloc: Global, input: &mut impl Read) -> Option<Vec<u8>> {
     let Some(head) = case_lines::next_bytes::<8, _>(input) else {
-        return Ok(None);
+        return None;
     };
     let size = hexadecimal::number(&head, 0, 8);
     if SHEET_ROOM < size {
-        return Ok(None);
+        return None;
     }
     let mut sheet = Vec::new(alloc);
-    input.by_ref().take(size).read_to_end(&mut sheet)?;
-    Ok(Some(sheet))
+    // a read that fails ends the sheet, as the end of the input does
+    let _ = input.by_ref().take(size).read_to_end(&mut sheet);
+    Some(sheet)
 }
 
 fn main(rt: HostRuntime) -> io::Result<()> {
@@ -66,10 +67,12 @@ fn main(rt: HostRuntime) -> io::Result<()> {
     let mut input = BufReader::new(alloc, rt.reader())?;
     let mut output = BufWriter::new(alloc, io::writer(&rt))?;
     for _ in 0..SHEETS {
-        let Some(sheet) = next_sheet(alloc, &mut input)? else {
+        let Some(sheet) = next_sheet(alloc, &mut input) else {
             break;
         };
         run_sheet(alloc, &sheet, &mut output)?;
+        // what is said of this sheet stands in the output before the next is read
+        output.flush()?;
     }
-    output.flush()
+    Ok(())
 }
