@@ -78,8 +78,8 @@ module _ (rights : List ℕ) (right first last : ℕ) where
 pub some-remain : (n : ℕ) → (n ≡ 0 → ⊥) → 1 ≤ n
 some-remain n z = omega arith
 
-pub begins : (t : Transfer) (v start : ℕ) → start ≡ element_address t v 0 → (aligned : Bool) → aligned ≡ eqb (start % t.bytes) 0 → aligned ≡ true
-    → Begins t v start
+pub begins : (t : Transfer) (v start : ℕ) → start ≡ element_address t v 0 → (aligned : Bool) → aligned ≡ eqb (start % t.bytes) 0
+    → aligned ≡ true → Begins t v start
 begins t v start q aligned e f = record { begins = q; aligned = is-aligned start t.bytes aligned e f }
 
 module _ (rights : List ℕ) (memory : ℕ) (t : Transfer) (v n : ℕ) (g : Packed memory t v n) where
