@@ -119,6 +119,7 @@ pub fn check(
     if !is_unit_stride(instruction) {
         return nothing_tested(Answer::Illegal);
     }
+    // what is not refused has 32 scalars and 256 rights
     let Ok(scalars) = <&[u64; 32]>::try_from(scalars) else {
         unreachable!()
     };

@@ -63,6 +63,7 @@ pub fn turn(
     if let Err(answer) = refused {
         return answered(answer, control);
     }
+    // what is not refused has 32 scalars and 256 rights
     let Some(scalars) = scalars.first_chunk_mut::<32>() else {
         unreachable!()
     };
