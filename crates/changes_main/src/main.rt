@@ -152,9 +152,15 @@ impl Machine {
         } = self;
         let control = told.control;
         let bytes = 32 * board.vlenb as usize;
-        let registers = &mut registers[..bytes];
         let turned = turn::turn(
-            board, word, allowance, registers, scalars, memory, rights, control,
+            board,
+            word,
+            allowance,
+            &mut registers[..bytes],
+            scalars,
+            memory,
+            rights,
+            control,
         );
         *told = told.with(turned);
     }
@@ -195,6 +201,7 @@ impl Case {
             whole: Machine::new(control),
         }
     }
+
     // What a line asks for.
     fn follow(&mut self, line: Line, output: &mut impl Write) -> io::Result<()> {
         match line {

@@ -4,6 +4,7 @@
 
 ghost use Rattle.std.specs.Prelude.{◌≡◌, ◌+◌, ◌≤◌, ◌^◌, length};
 ghost use Rattle.answer.specs.Answer.{number_of};
+ghost use Rattle.control.specs.Board.{base};
 ghost use Rattle.text.specs.Text.{Wrote, Adds};
 ghost use Rattle.sheet_read.specs.Sheet.{word_at, words_at, sheet_of};
 ghost use Rattle.sheet_read.specs.Listed.{Listed};
@@ -40,7 +41,7 @@ fn report_wanted(text: &mut Text, answer: Answer, wanted: Wanted)
         | Answer::StoreMisaligned
         | Answer::StoreAccess => {
             text.decimal_line(b"page=", wanted.page);
-            text.decimal_line(b"right=", u64::from(wanted.right));
+            text.decimal_line(b"right=", wanted.right as u64);
         }
         _ => {}
     }
@@ -141,6 +142,13 @@ fn scalars(sheet: &[u8]) -> [u64; 32]
 
 // ---- the machine, and its run
 
+// The board of every sheet.
+fn board() -> Board
+    ensures { result ≡ base }
+{
+    Board::BASE
+}
+
 // The machine that a sheet runs on.
 #[derive(Drop)]
 struct Machine {
@@ -176,7 +184,7 @@ impl Machine {
             Leaves p text.old text.new self.new × ((result ≡ p.answer) × (text.new.at ≤ text.old.at + report_bound)) }
     {
         let turned = turn::turn(
-            Board::BASE,
+            board(),
             word,
             allow,
             &mut self.registers,
