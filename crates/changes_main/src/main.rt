@@ -141,28 +141,19 @@ impl Machine {
         }
     }
 
-    // A turn on a board; the smaller one has the first half of the file.
+    // A turn on a board.
     fn turn(&mut self, board: Board, word: u32, allowance: u32) {
-        let Machine {
-            registers,
-            scalars,
-            memory,
-            rights,
-            told,
-        } = self;
-        let control = told.control;
-        let bytes = 32 * board.vlenb as usize;
-        let turned = turn::turn(
+        let turned = turned(
             board,
             word,
             allowance,
-            &mut registers[..bytes],
-            scalars,
-            memory,
-            rights,
-            control,
+            &mut self.registers,
+            &mut self.scalars,
+            &mut self.memory,
+            &self.rights,
+            self.told.control,
         );
-        *told = told.with(turned);
+        self.told = self.told.with(turned);
     }
 
     // Of the registers, the scalars, the control record and memory.
@@ -172,6 +163,30 @@ impl Machine {
         let sum = sum_of(sum, &<[u64; 6]>::from(self.told.control));
         sum_of(sum, &self.memory)
     }
+}
+
+// A turn on a board; the smaller one has the first half of the file.
+fn turned(
+    board: Board,
+    word: u32,
+    allowance: u32,
+    registers: &mut [u8; REGISTERS],
+    scalars: &mut [u64],
+    memory: &mut [u8],
+    rights: &[u8],
+    control: Control,
+) -> Turned {
+    let bytes = 32 * board.vlenb as usize;
+    turn::turn(
+        board,
+        word,
+        allowance,
+        &mut registers[..bytes],
+        scalars,
+        memory,
+        rights,
+        control,
+    )
 }
 
 // A checksum with some numbers more.
