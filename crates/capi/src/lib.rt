@@ -20,6 +20,13 @@ use control::{Board, Control};
 
 pub mod small;
 
+// The first board.
+fn board() -> Board
+    ensures { result ≡ base }
+{
+    Board::BASE
+}
+
 // One turn of a word: the answer's number, and in the lent parts what the turn leaves.
 #[unsafe(no_mangle)]
 pub extern "C" fn prashunde_turn(
@@ -43,7 +50,7 @@ pub extern "C" fn prashunde_turn(
         scalars.new memory.new rights.now control.new }
 {
     let turned = turn::turn(
-        Board::BASE,
+        board(),
         word,
         allowance,
         registers,
@@ -81,7 +88,7 @@ pub extern "C" fn prashunde_access_check(
         × ((rights.exit.now ≡ rights.entry.now) × (control.exit.now ≡ control.entry.now)))) }
 {
     let checked = access_check::check(
-        Board::BASE,
+        board(),
         word,
         registers,
         scalars,
@@ -99,7 +106,7 @@ pub extern "C" fn prashunde_csr_read(csr: u64, control: &[u64; 6], value: &mut u
     ensures value_after { value.new ≡ value_of (read_of base (record_of control.now) csr) }
     ensures control_value { control.exit.now ≡ control.entry.now }
 {
-    crossing::read(csr::read(Board::BASE, Control::from(*control), csr), value)
+    crossing::read(csr::read(board(), Control::from(*control), csr), value)
 }
 
 // The record after a write, through the write on a lent record; the same record beside any other answer than 0.
@@ -110,7 +117,7 @@ pub extern "C" fn prashunde_csr_write(csr: u64, value: u64, control: &mut [u64; 
         ≡ fields_of (record_after (record_of control.old) (written_of base (record_of control.old) csr value)) }
 {
     let mut record = Control::from(*control);
-    let outcome = csr_field::write(Board::BASE, &mut record, csr, value);
+    let outcome = csr_field::write(board(), &mut record, csr, value);
     crossing::written(outcome, record, control)
 }
 
@@ -128,7 +135,7 @@ pub extern "C" fn prashunde_view(
     ensures size_after { size.new ≡ size_of (place_of base (length registers.now) first count) }
 {
     crossing::placed(
-        view::place(Board::BASE, registers.len(), first, count),
+        view::place(board(), registers.len(), first, count),
         start,
         size,
     )

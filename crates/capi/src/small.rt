@@ -13,6 +13,12 @@ ghost use Rattle.crossing.specs.Crossing.{Shows, Tells};
 
 use control::{Board, Control};
 
+fn board() -> Board
+    ensures { result ≡ small }
+{
+    Board::SMALL
+}
+
 #[unsafe(no_mangle)]
 pub extern "C" fn prashunde_small_turn(
     word: u32,
@@ -35,7 +41,7 @@ pub extern "C" fn prashunde_small_turn(
         scalars.new memory.new rights.now control.new }
 {
     let turned = turn::turn(
-        Board::SMALL,
+        board(),
         word,
         allowance,
         registers,
@@ -71,7 +77,7 @@ pub extern "C" fn prashunde_small_access_check(
         × ((rights.exit.now ≡ rights.entry.now) × (control.exit.now ≡ control.entry.now)))) }
 {
     let checked = access_check::check(
-        Board::SMALL,
+        board(),
         word,
         registers,
         scalars,
@@ -88,7 +94,7 @@ pub extern "C" fn prashunde_small_csr_read(csr: u64, control: &[u64; 6], value: 
     ensures value_after { value.new ≡ value_of (read_of small (record_of control.now) csr) }
     ensures control_value { control.exit.now ≡ control.entry.now }
 {
-    crossing::read(csr::read(Board::SMALL, Control::from(*control), csr), value)
+    crossing::read(csr::read(board(), Control::from(*control), csr), value)
 }
 
 #[unsafe(no_mangle)]
@@ -98,7 +104,7 @@ pub extern "C" fn prashunde_small_csr_write(csr: u64, value: u64, control: &mut 
         ≡ fields_of (record_after (record_of control.old) (written_of small (record_of control.old) csr value)) }
 {
     let mut record = Control::from(*control);
-    let outcome = csr_field::write(Board::SMALL, &mut record, csr, value);
+    let outcome = csr_field::write(board(), &mut record, csr, value);
     crossing::written(outcome, record, control)
 }
 
@@ -115,7 +121,7 @@ pub extern "C" fn prashunde_small_view(
     ensures size_after { size.new ≡ size_of (place_of small (length registers.now) first count) }
 {
     crossing::placed(
-        view::place(Board::SMALL, registers.len(), first, count),
+        view::place(board(), registers.len(), first, count),
         start,
         size,
     )
