@@ -203,6 +203,6 @@ foretold-on b w = record {
 pub foretold : Foretold base
 foretold = foretold-on base (valid base)
 
--- the smaller board, whose check `access_check::small_check` promises
+-- the smaller board, whose check `access_check::check` promises at it
 pub small-foretold : Foretold small
 small-foretold = foretold-on small (valid small)

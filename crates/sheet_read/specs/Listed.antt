@@ -1,4 +1,4 @@
--- For contracts of inner functions, not to be believed: what the functions that read a sheet answer.
+-- What the functions that read a sheet answer, by the definitions in Sheet.
 use Rattle.std.specs.Prelude.{ℕ, ◌≡◌, ◌≤◌, ◌<◌, List, Option, MatchOption}
 use Rattle.sheet_read.specs.declared.Words.{Words}
 use Rattle.sheet_read.specs.Sheet.{most_allow, allow_of, after_allow, first_word, most_words, count_at, first_bad}
