@@ -4,15 +4,12 @@
 #![tactic(auto)]
 
 ghost use Rattle.std.specs.Prelude.{◌≡◌, List, ℕ};
-ghost use Rattle.answer.specs.Answer.{number_of, answer_of};
+ghost use Rattle.answer.specs.Answer.{number_of};
 ghost use Rattle.control.specs.Control.{fields_of};
-ghost use Rattle.csr.specs.Csr.{value_of};
-ghost use Rattle.view.specs.View.{start_of, size_of};
 ghost use Rattle.machine.specs.Call.{left};
 ghost use Rattle.crossing.specs.Crossing.{Shows, Tells};
 
-use answer::Answer;
-use control::Control;
+use csr::{CsrRead, CsrWrite};
 use machine::Turned;
 use unit_stride::Checked;
 use view::ViewPlace;
@@ -29,13 +26,16 @@ pub fn turned(
     ensures { (registers scalars memory rights : List ℕ) → Shows (left turned registers scalars memory rights) result passed.new
         address.new page.new right.new registers scalars memory rights control.new }
 {
+    let answer = turned.answer;
     let place = turned.place;
-    *control = turned.control.into();
+    let wanted = place.wanted;
+    let after = turned.control;
+    *control = after.fields();
     *passed = turned.passed;
     *address = place.address;
-    *page = place.wanted.page;
-    *right = u64::from(place.wanted.right);
-    u64::from(turned.answer)
+    *page = wanted.page;
+    *right = wanted.right as u64;
+    answer::number(answer)
 }
 
 // An access check.
@@ -48,58 +48,44 @@ pub fn checked(
 ) -> u64
     ensures { Tells checked result element.new pages.new page.new right.new }
 {
+    let answer = checked.answer;
+    let wanted = checked.wanted;
     *element = checked.element;
     *pages = checked.pages;
-    *page = checked.wanted.page;
-    *right = u64::from(checked.wanted.right);
-    u64::from(checked.answer)
+    *page = wanted.page;
+    *right = wanted.right as u64;
+    answer::number(answer)
 }
 
-// A read by CSR number: the value is 0 beside a refusal.
-pub fn read(read: Result<u64, Answer>, value: &mut u64) -> u64
-    ensures answered { result ≡ number_of (answer_of read) }
-    ensures value_after { value.new ≡ value_of read }
+// A read by CSR number.
+pub fn read(read: CsrRead, value: &mut u64) -> u64
+    ensures value { result ≡ number_of read.answer }
+    ensures value_after { value.new ≡ read.value }
 {
-    match read {
-        Ok(found) => {
-            *value = found;
-            u64::from(Answer::Finished)
-        }
-        Err(refused) => {
-            *value = 0;
-            u64::from(refused)
-        }
-    }
+    let answer = read.answer;
+    *value = read.value;
+    answer::number(answer)
 }
 
-// A write by CSR number, and the record after it.
-pub fn written(outcome: Result<(), Answer>, after: Control, control: &mut [u64; 6]) -> u64
-    ensures answered { result ≡ number_of (answer_of outcome) }
-    ensures control_after { control.new ≡ fields_of after }
+// A write by CSR number.
+pub fn written(written: CsrWrite, control: &mut [u64; 6]) -> u64
+    ensures value { result ≡ number_of written.answer }
+    ensures control_after { control.new ≡ fields_of written.control }
 {
-    *control = after.into();
-    match outcome {
-        Ok(()) => u64::from(Answer::Finished),
-        Err(refused) => u64::from(refused),
-    }
+    let answer = written.answer;
+    let after = written.control;
+    *control = after.fields();
+    answer::number(answer)
 }
 
-// The place of a group of registers: both numbers are 0 beside a refusal.
-pub fn placed(place: Result<ViewPlace, Answer>, start: &mut usize, size: &mut usize) -> u64
-    ensures answered { result ≡ number_of (answer_of place) }
-    ensures start_after { start.new ≡ start_of place }
-    ensures size_after { size.new ≡ size_of place }
+// The place of a group of registers.
+pub fn placed(place: ViewPlace, start: &mut usize, size: &mut usize) -> u64
+    ensures value { result ≡ number_of place.answer }
+    ensures start_after { start.new ≡ place.start }
+    ensures size_after { size.new ≡ place.size }
 {
-    match place {
-        Ok(place) => {
-            *start = place.start;
-            *size = place.size;
-            u64::from(Answer::Finished)
-        }
-        Err(refused) => {
-            *start = 0;
-            *size = 0;
-            u64::from(refused)
-        }
-    }
+    let answer = place.answer;
+    *start = place.start;
+    *size = place.size;
+    answer::number(answer)
 }

@@ -1,1 +1,1 @@
-pub mod FieldLaws
+pub mod ChangeLaws

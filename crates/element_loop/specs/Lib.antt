@@ -1,2 +1,1 @@
 pub mod Runnable
-pub mod Step

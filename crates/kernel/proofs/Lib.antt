@@ -1,2 +1,2 @@
 pub mod KernelLaws
-pub mod PlanLaws
+pub mod NumberLaws

@@ -1,4 +1,5 @@
--- What a call of a turn is given and leaves, in the definition's terms: `turn::turn` promises `left .. ≡ turn_of board .. (given ..)`.
+-- What a call of a turn is given and leaves, in the definition's terms: `turn::turn` promises `left .. ≡ turn_of base .. (given ..)`, and
+-- `turn::small_turn` the same with `small`.
 use Rattle.std.specs.Prelude.{ℕ, List}
 use Rattle.control.specs.declared.Control.{Control}
 use Rattle.machine.specs.declared.Turned.{Turned}

@@ -1,3 +1,4 @@
+pub mod ScalarLaws
 pub mod MaskLaws
 pub mod ResultLaws
 pub mod MoveLaws

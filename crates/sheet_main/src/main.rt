@@ -6,10 +6,8 @@
 ghost use Rattle.std.specs.Prelude.{◌≡◌, length};
 ghost use Rattle.sheet.specs.Bounds.{sheet_bound};
 
-use std::io::{self, Read, Write};
-
 // Bytes read at most.
-const INPUT: u64 = 1000;
+const INPUT: usize = 1000;
 
 // Zeros, as many as the longest text that a sheet prints.
 fn room() -> [u8; sheet::SHEET_MAX]
@@ -18,17 +16,16 @@ fn room() -> [u8; sheet::SHEET_MAX]
     [0; sheet::SHEET_MAX]
 }
 
-// What a sheet prints.
-fn print(output: &mut impl Write, sheet: &[u8], out: &mut [u8]) -> io::Result<()> {
+// What a sheet prints, on standard output.
+fn print(sheet: &[u8], out: &mut [u8]) {
     let n = sheet::run(sheet, out);
-    let k = n.min(out.len());
-    output.write_all(&out[..k])
+    let k = io::count(n as isize, out);
+    io::write_all(1, &out[..k]);
 }
 
-fn main(rt: HostRuntime) -> io::Result<()> {
-    let mut sheet = Vec::new(rt.alloc());
-    // a read that fails ends the sheet, as the end of the input does
-    let _ = rt.reader().take(INPUT).read_to_end(&mut sheet);
+fn main() {
+    let mut input = [0u8; INPUT];
     let mut out = room();
-    print(&mut io::writer(&rt), &sheet, &mut out)
+    let n = io::read_full(0, &mut input);
+    print(&input[..n], &mut out);
 }

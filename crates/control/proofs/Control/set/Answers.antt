@@ -1,21 +1,21 @@
 use Rattle.control.specs.Control.{set_of}
 use Rattle.control.proofs.Control.set.Goals as goal
 
-pub returns-in-Some : goal.returns-in-Some
+pub returns-in-To : goal.returns-in-To
 unfolding set_of
-returns-in-Some c = rw (
-  c.in-Some.is,
+returns-in-To c = rw (
+  c.in-To.is,
   c.set_if.ensures,
-  c.min.ensures,
+  c.smaller.ensures,
   c.vlmax.ensures,
   c.supported-supported.ensures,
 )
 
-pub returns-in-None : goal.returns-in-None
+pub returns-in-Keep : goal.returns-in-Keep
 unfolding set_of
-returns-in-None c = rw (
-  c.in-None.is,
-  c.set_if-in-None.ensures,
+returns-in-Keep c = rw (
+  c.in-Keep.is,
+  c.set_if-in-Keep.ensures,
   c.keeps.ensures,
   c.supported-supported.ensures,
 )
