@@ -1,14 +1,12 @@
 -- The access test by its outcomes; the loop over the fields of a segment.
 use Rattle.std.proofs.Common.{◌≡◌, ℕ, zero, suc, ◌+◌, ◌-◌, ◌*◌, ◌/◌, ◌%◌, ◌^◌, ◌<◌, ◌≤◌, Bool, true, false, not, T, eqb, leb, List, get_or, sym, refl, ap, ◌∙◌, mod-eq_of_lt, add-one, arith, w64, Fits, eq-eqb, eqb-true, le-leb, leb-false, leb-true}
-use lib.Bits.{bit_and, and_mask}
+use Rattle.std.specs.Prelude.{Result, Ok, Err, ⊤, IsErrAnd}
 use borrow.Author.Tests.{eqb-false, lt-leb, not-true, not-false}
 use Rattle.laws.proofs.Chain.{either}
 use Rattle.layout.specs.Layout.{byte_size}
 use Rattle.layout.proofs.WidthLaws.{size-elim, size-pos}
 use Rattle.answer.specs.declared.Answer.{Answer}
 use Rattle.access.specs.declared.Fault.{Fault}
-use Rattle.access.specs.declared.AccessTest.{AccessTest}
-use Rattle.access.specs.declared.AccessTest.TheVariants.{Granted, Faulted}
 use Rattle.access.specs.Access.{page_of, needed, wanted_at, nothing_wanted, fault_at, misaligned, denied, access_of, field_address, or_next}
 use Rattle.access.specs.Access.{fields_access}
 
@@ -24,9 +22,14 @@ last_fits a n t e f =
           (λ h. omega arith) n t e;
     }
 
+-- what `?` hands on is the error itself
+pub handed-on : {A E : Type 0} (r : Result A E) (e : E) → IsErrAnd r (λ x. x ≡ e) → r ≡ Err e
+handed-on (Ok y) e h = absurd h
+handed-on (Err x) e h = rw h
+
 -- ---- what is granted is aligned, inside memory and on a page that has the right
 
-never : {A : Type 0} (f : Fault) → Faulted f ≡ Granted → A
+never : {A : Type 0} (f : Fault) → ◌≡◌ {A = Result ⊤ Fault} (Err f) (Ok tt) → A
 never f h = absurd (let z : ◌≡◌ {A = ℕ} 0 1 = cc in omega arith)
 
 pub record Grantable (rights : List ℕ) (memory : ℕ) (store : Bool) (a n : ℕ) : Type 0 where
@@ -35,7 +38,7 @@ pub record Grantable (rights : List ℕ) (memory : ℕ) (store : Bool) (a n : �
   pub right : needed store ≤ get_or rights (page_of a) 0
 
 module _ (rights : List ℕ) (memory : ℕ) (store : Bool) (a n : ℕ) where
-  pub facts-granted : Grantable rights memory store a n → access_of rights memory store a n ≡ Granted
+  pub facts-granted : Grantable rights memory store a n → access_of rights memory store a n ≡ Ok tt
   unfolding access_of
   facts-granted g =
       rw (
@@ -45,10 +48,10 @@ module _ (rights : List ℕ) (memory : ℕ) (store : Bool) (a n : ℕ) where
       )
 
   -- what holds of each outcome that the test can have holds of its outcome
-  pub access-cases : (P : AccessTest → Type 0) → ((a % n ≡ 0 → ⊥) → P (fault_at (misaligned store) a nothing_wanted))
+  pub access-cases : (P : Result ⊤ Fault → Type 0) → ((a % n ≡ 0 → ⊥) → P (fault_at (misaligned store) a nothing_wanted))
       → (a % n ≡ 0 → memory < a + n → P (fault_at (denied store) a nothing_wanted))
       → (a % n ≡ 0 → a + n ≤ memory → get_or rights (page_of a) 0 < needed store → P (fault_at (denied store) a (wanted_at store a)))
-      → (Grantable rights memory store a n → P Granted)
+      → (Grantable rights memory store a n → P (Ok tt))
       → P (access_of rights memory store a n)
   unfolding access_of
   access-cases P if-misaligned if_past if-closed if-granted =
@@ -62,41 +65,35 @@ module _ (rights : List ℕ) (memory : ℕ) (store : Bool) (a n : ℕ) where
       (λ v. if-granted (record { aligned = e; inside = i; right = leb-true (needed store) (get_or rights (page_of a) 0) v }))
       (λ v. if-closed e i (leb-false (needed store) (get_or rights (page_of a) 0) v))))
 
-  pub granted-facts : access_of rights memory store a n ≡ Granted → Grantable rights memory store a n
-  granted-facts = access-cases (λ v. v ≡ Granted → Grantable rights memory store a n)
+  pub granted-facts : access_of rights memory store a n ≡ Ok tt → Grantable rights memory store a n
+  granted-facts = access-cases (λ v. v ≡ Ok tt → Grantable rights memory store a n)
       (λ e. never _) (λ e o. never _) (λ e i r. never _) (λ g h. g)
 
   -- ---- the test by its outcomes
 
-  pub faults-misaligned : (r : AccessTest) (x : Answer) (t : Bool) → t ≡ eqb (a % n) 0 → t ≡ false → x ≡ misaligned store
+  pub faults-misaligned : (r : Result ⊤ Fault) (x : Answer) (t : Bool) → t ≡ eqb (a % n) 0 → t ≡ false → x ≡ misaligned store
       → r ≡ fault_at x a nothing_wanted
       → r ≡ access_of rights memory store a n
   unfolding access_of
   faults-misaligned r x t e f p q = rw (← e, f, ← p) q
 
   module _ (e : a % n ≡ 0) where
-    pub faults-past-memory : (r : AccessTest) (x : Answer) → T (byte_size n) → memory ≤ a + (n - 1) → x ≡ denied store
+    pub faults-past-memory : (r : Result ⊤ Fault) (x : Answer) → T (byte_size n) → memory ≤ a + (n - 1) → x ≡ denied store
         → r ≡ fault_at x a nothing_wanted
         → r ≡ access_of rights memory store a n
     unfolding access_of
     faults-past-memory r x t h p q = rw (eq-eqb (a % n) 0 e, lt-leb (a + n) memory (omega (arith, size-pos n t)), ← p) q
 
     module _ (k : ℕ) (h : a + (n - 1) < memory) (g : k ≡ needed store) where
-      pub faults-closed : (r : AccessTest) (x : Answer) → get_or rights (a / 256) 0 < k → x ≡ denied store
+      pub faults-closed : (r : Result ⊤ Fault) (x : Answer) → get_or rights (a / 256) 0 < k → x ≡ denied store
           → r ≡ fault_at x a (record { page = a / 256; right = k })
           → r ≡ access_of rights memory store a n
       unfolding access_of
       faults-closed r x l p q =
           rw (eq-eqb (a % n) 0 e, le-leb (a + n) memory (omega arith), ← g, lt-leb k (get_or rights (a / 256) 0) l, ← p) q
 
-      pub granted : k ≤ get_or rights (a / 256) 0 → Granted ≡ access_of rights memory store a n
+      pub granted : k ≤ get_or rights (a / 256) 0 → Ok tt ≡ access_of rights memory store a n
       granted l = sym (facts-granted (record { aligned = e; inside = omega arith; right = omega (arith, g, l) }))
-
--- the bits below a power of 2
-pub size-mask : (a n : ℕ) → T (byte_size n) → eqb (bit_and a (n - 1)) 0 ≡ eqb (a % n) 0
-size-mask a n t =
-    ap (λ (x : ℕ). eqb x 0)
-    (size-elim (λ k. bit_and a (k - 1) ≡ a % k) (and_mask a 0) (and_mask a 1) (and_mask a 2) (and_mask a 3) n t)
 
 -- ---- fields
 
@@ -122,7 +119,7 @@ module _ (rights : List ℕ) (memory : ℕ) (store : Bool) (a n nf : ℕ) where
     all : suc nf - 0 ≡ suc nf
     all = omega arith
 
-  module _ (field k : ℕ) (t : Testing field k) (l : k ≤ nf) (v : AccessTest) (p : v ≡ access_of rights memory store field n) where
+  module _ (field k : ℕ) (t : Testing field k) (l : k ≤ nf) (v : Result ⊤ Fault) (p : v ≡ access_of rights memory store field n) where
     -- with field k before the others
     split : fields_access rights memory store a n 0 (suc nf) ≡ or_next v (fields_access rights memory store a n (suc k) (nf - k))
     unfolding fields_access
@@ -131,37 +128,37 @@ module _ (rights : List ℕ) (memory : ℕ) (store : Bool) (a n nf : ℕ) where
         sub-suc : suc nf - k ≡ suc (nf - k)
         sub-suc = omega arith
 
-    pub testing-faulted : (f : Fault) (r : AccessTest) → v ≡ Faulted f → r ≡ Faulted f
+    pub testing-faulted : (f : Fault) (r : Result ⊤ Fault) → v ≡ Err f → r ≡ Err f
         → r ≡ fields_access rights memory store a n 0 (suc nf)
     testing-faulted f r q e = e ∙ sym (split ∙ rw q)
 
-    pub testing-more : (field' : ℕ) → v ≡ Granted → field' ≡ (field + n) % 2 ^ 64 → Testing field' (k + 1)
-    testing-more field' q e = record {
+    pub testing-more : (x : ⊤) → v ≡ Ok x → Testing ((field + n) % 2 ^ 64) (k + 1)
+    testing-more x q = record {
       most = omega arith;
-      here = e ∙ ap (λ (x : ℕ). (x + n) % 2 ^ 64) t.here ∙ next_field a n k;
+      here = ap (λ (x : ℕ). (x + n) % 2 ^ 64) t.here ∙ next_field a n k;
       rest = split ∙ rw (q, add-one) (ap (fields_access rights memory store a n (suc k)) (omega arith));
     }
 
-  pub testing-done : (field k : ℕ) → Testing field k → nf < k → Granted ≡ fields_access rights memory store a n 0 (suc nf)
-  unfolding fields_access
-  testing-done field k t l = sym (t.rest ∙ rw none)
-    where
-      none : suc nf - k ≡ 0
-      none = omega arith
+    pub testing-done : (x : ⊤) → v ≡ Ok x → nf ≤ k → Ok tt ≡ fields_access rights memory store a n 0 (suc nf)
+    unfolding fields_access
+    testing-done x q m = sym (split ∙ rw (q, none))
+      where
+        none : nf - k ≡ 0
+        none = omega arith
 
 -- ---- fields that are granted lie inside memory
 
-pub granted-first : (v w : AccessTest) → or_next v w ≡ Granted → v ≡ Granted
-granted-first Granted w h = refl
-granted-first (Faulted f) w h = h
+pub granted-first : (v w : Result ⊤ Fault) → or_next v w ≡ Ok tt → v ≡ Ok tt
+granted-first (Ok tt) w h = refl
+granted-first (Err f) w h = h
 
-pub granted-next : (v w : AccessTest) → or_next v w ≡ Granted → w ≡ Granted
-granted-next Granted w h = h
-granted-next (Faulted f) w h = never f h
+pub granted-next : (v w : Result ⊤ Fault) → or_next v w ≡ Ok tt → w ≡ Ok tt
+granted-next (Ok tt) w h = h
+granted-next (Err f) w h = never f h
 
 module _ (rights : List ℕ) (memory : ℕ) (store : Bool) (a n : ℕ) (m : memory ≤ 65536) where
-  field-here : (k : ℕ) (next : AccessTest) → a + k * n < 2 ^ 64
-      → or_next (access_of rights memory store (field_address a n k) n) next ≡ Granted → a + k * n + n ≤ memory
+  field-here : (k : ℕ) (next : Result ⊤ Fault) → a + k * n < 2 ^ 64
+      → or_next (access_of rights memory store (field_address a n k) n) next ≡ Ok tt → a + k * n + n ≤ memory
   field-here k next l h =
       let here : field_address a n k + n ≤ memory =
       (granted-facts rights memory store (field_address a n k) n (granted-first _ next h)).inside in
@@ -169,7 +166,7 @@ module _ (rights : List ℕ) (memory : ℕ) (store : Bool) (a n : ℕ) (m : memo
       omega (arith, here, plain)
 
   -- no field's address wraps where all are granted
-  fields-inside : (k others : ℕ) → a + k * n < 2 ^ 64 → fields_access rights memory store a n k (suc others) ≡ Granted
+  fields-inside : (k others : ℕ) → a + k * n < 2 ^ 64 → fields_access rights memory store a n k (suc others) ≡ Ok tt
       → a + (k + suc others) * n ≤ memory
   unfolding fields_access
   fields-inside k zero l h = omega (arith, field-here k _ l h)
@@ -180,6 +177,6 @@ module _ (rights : List ℕ) (memory : ℕ) (store : Bool) (a n : ℕ) (m : memo
             (granted-next (access_of rights memory store (field_address a n k) n) _ h),
       )
 
-  pub segment-inside : (nf : ℕ) (v : AccessTest) → Fits w64 a → v ≡ fields_access rights memory store a n 0 (suc nf) → v ≡ Granted
+  pub segment-inside : (nf : ℕ) (v : Result ⊤ Fault) → Fits w64 a → v ≡ fields_access rights memory store a n 0 (suc nf) → v ≡ Ok tt
       → a + suc nf * n ≤ memory
   segment-inside nf v f p q = omega (arith, fields-inside 0 nf (omega (arith, f.fits)) (sym p ∙ q))

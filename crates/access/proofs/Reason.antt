@@ -1,24 +1,23 @@
 -- Each fault has a reason.
 use Rattle.std.proofs.Common.{◌≡◌, ℕ, zero, suc, ◌<◌, ◌≤◌, Bool, List, get_or, subst, arith}
+use Rattle.std.specs.Prelude.{Result, Ok, Err, ⊤}
 use Rattle.access.specs.declared.Fault.{Fault}
-use Rattle.access.specs.declared.AccessTest.{AccessTest}
-use Rattle.access.specs.declared.AccessTest.TheVariants.{Granted, Faulted}
 use Rattle.access.specs.Access.{access_of, field_address, or_next, fields_access}
 use Rattle.access.specs.Reason.{Reason, not_aligned, past_memory, page-closed, Reasons}
 use Rattle.access.proofs.AccessLaws.{facts-granted, access-cases}
 
 module _ (rights : List ℕ) (memory : ℕ) (store : Bool) (n : ℕ) where
   -- an outcome of the test: where it is a fault, there is a reason
-  abbrev Explained : AccessTest → Type 0
-  Explained Granted = Unit {0}
-  Explained (Faulted f) = Reason rights memory store n f
+  abbrev Explained : Result ⊤ Fault → Type 0
+  Explained (Ok tt) = Unit {0}
+  Explained (Err f) = Reason rights memory store n f
 
   of-element : (a : ℕ) → Explained (access_of rights memory store a n)
   of-element a = access-cases rights memory store a n Explained (not_aligned a) (past_memory a) (page-closed a) (λ g. tt)
 
-  of-next : (v w : AccessTest) → Explained v → Explained w → Explained (or_next v w)
-  of-next Granted w g h = h
-  of-next (Faulted f) w g h = g
+  of-next : (v w : Result ⊤ Fault) → Explained v → Explained w → Explained (or_next v w)
+  of-next (Ok tt) w g h = h
+  of-next (Err f) w g h = g
 
   of_fields : (a k others : ℕ) → Explained (fields_access rights memory store a n k others)
   unfolding fields_access
@@ -29,7 +28,7 @@ module _ (rights : List ℕ) (memory : ℕ) (store : Bool) (n : ℕ) where
 
   opened : (rights' : List ℕ) (f : Fault) → Reason rights memory store n f
       → f.place.wanted.page < 256 → f.place.wanted.right ≤ get_or rights' f.place.wanted.page 0
-      → access_of rights' memory store f.place.address n ≡ Granted
+      → access_of rights' memory store f.place.address n ≡ Ok tt
   opened rights' _ (not_aligned a e) l h = absurd (omega arith)
   opened rights' _ (past_memory a e o) l h = absurd (omega arith)
   opened rights' _ (page-closed a e i r) l h = facts-granted rights' memory store a n (record { aligned = e; inside = i; right = h })

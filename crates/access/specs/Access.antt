@@ -1,13 +1,11 @@
 -- The access test of one element (document 01, 'One turn and its answer'): alignment, then end of memory and right; what a fault tells
 -- (document 02, A9); and the test of the fields of a segment (A1).
-use Rattle.std.specs.Prelude.{ℕ, zero, suc, ◌+◌, ◌*◌, ◌/◌, ◌%◌, ◌^◌, Bool, cond, not, List, ◌==◌, nat_le, slice_index}
+use Rattle.std.specs.Prelude.{ℕ, zero, suc, ◌+◌, ◌*◌, ◌/◌, ◌%◌, ◌^◌, Bool, cond, not, List, ◌==◌, nat_le, slice_index, Result, Ok, Err, ⊤}
 use Rattle.answer.specs.declared.Answer.{Answer}
 use Rattle.answer.specs.declared.Answer.TheVariants.{LoadMisaligned, LoadAccess, StoreMisaligned, StoreAccess}
 use Rattle.access.specs.declared.Wanted.{Wanted}
 use Rattle.access.specs.declared.FaultPlace.{FaultPlace}
 use Rattle.access.specs.declared.Fault.{Fault}
-use Rattle.access.specs.declared.AccessTest.{AccessTest}
-use Rattle.access.specs.declared.AccessTest.TheVariants.{Granted, Faulted}
 
 -- a page has 256 bytes
 abbrev pub page_of : ℕ → ℕ
@@ -31,8 +29,8 @@ nothing_wanted = record { page = 256; right = 0 }
 abbrev pub fault_of : Answer → ℕ → Wanted → Fault
 fault_of answer a wanted = record { answer = answer; place = record { address = a; wanted = wanted } }
 
-abbrev pub fault_at : Answer → ℕ → Wanted → AccessTest
-fault_at answer a wanted = Faulted (fault_of answer a wanted)
+abbrev pub fault_at : Answer → ℕ → Wanted → Result ⊤ Fault
+fault_at answer a wanted = Err (fault_of answer a wanted)
 
 -- beside all other answers the address is 0
 abbrev pub nowhere : FaultPlace
@@ -47,11 +45,11 @@ denied store = cond store StoreAccess LoadAccess
 
 -- the element of n bytes at address a, by the pages' rights and the number of bytes of memory. An aligned element lies on the page of its
 -- first byte (`OnePage`)
-unfoldable pub access_of : List ℕ → ℕ → Bool → ℕ → ℕ → AccessTest
+unfoldable pub access_of : List ℕ → ℕ → Bool → ℕ → ℕ → Result ⊤ Fault
 access_of rights memory store a n =
     cond (not (a % n == 0)) (fault_at (misaligned store) a nothing_wanted)
     (cond (not (nat_le (a + n) memory)) (fault_at (denied store) a nothing_wanted)
-    (cond (nat_le (needed store) (slice_index rights (page_of a))) Granted
+    (cond (nat_le (needed store) (slice_index rights (page_of a))) (Ok tt)
     (fault_at (denied store) a (wanted_at store a))))
 
 -- ---- the fields of a segment: each of n bytes, the first at address a
@@ -61,12 +59,12 @@ abbrev pub field_address : ℕ → ℕ → ℕ → ℕ
 field_address a n k = (a + k * n) % 2 ^ 64
 
 -- the first test that faults decides
-abbrev pub or_next : AccessTest → AccessTest → AccessTest
-or_next Granted next = next
-or_next (Faulted f) next = Faulted f
+abbrev pub or_next : Result ⊤ Fault → Result ⊤ Fault → Result ⊤ Fault
+or_next (Ok tt) next = next
+or_next (Err f) next = Err f
 
 -- "Fields are checked upward before any of the segment moves" (A1): so many of them, from field k on
-unfoldable pub fields_access : List ℕ → ℕ → Bool → ℕ → ℕ → ℕ → ℕ → AccessTest
-fields_access rights memory store a n k zero = Granted
+unfoldable pub fields_access : List ℕ → ℕ → Bool → ℕ → ℕ → ℕ → ℕ → Result ⊤ Fault
+fields_access rights memory store a n k zero = Ok tt
 fields_access rights memory store a n k (suc others) =
     or_next (access_of rights memory store (field_address a n k) n) (fields_access rights memory store a n (suc k) others)

@@ -1,7 +1,6 @@
 -- Why the right of one page decides (document 02, A7): an aligned element lies on one page.
-use Rattle.std.specs.Prelude.{◌≡◌, ℕ, ◌+◌, ◌%◌, ◌<◌, ◌≤◌, Bool, T, List, slice_index}
+use Rattle.std.specs.Prelude.{◌≡◌, ℕ, ◌+◌, ◌%◌, ◌<◌, ◌≤◌, Bool, T, List, slice_index, Ok}
 use Rattle.layout.specs.Layout.{byte_size}
-use Rattle.access.specs.declared.AccessTest.TheVariants.{Granted}
 use Rattle.access.specs.Access.{page_of, needed, access_of}
 
 -- where the element of n bytes at address a is aligned, its byte i is on the page of its first
@@ -18,7 +17,7 @@ pub record OnePage : Type 0 where
   pub same-page : (a n i : ℕ) → T (byte_size n) → OnFirstPage a n i
   -- and so an element is granted where it is aligned and each of its bytes is permitted, and nowhere else
   pub if-permitted : (rights : List ℕ) (memory : ℕ) (store : Bool) (a n : ℕ) → T (byte_size n) → a % n ≡ 0
-      → ((i : ℕ) → i < n → Permitted rights memory store (a + i)) → access_of rights memory store a n ≡ Granted
+      → ((i : ℕ) → i < n → Permitted rights memory store (a + i)) → access_of rights memory store a n ≡ Ok tt
   pub only-if-permitted : (rights : List ℕ) (memory : ℕ) (store : Bool) (a n : ℕ) → T (byte_size n)
-      → access_of rights memory store a n ≡ Granted
+      → access_of rights memory store a n ≡ Ok tt
       → (a % n ≡ 0) × ((i : ℕ) → i < n → Permitted rights memory store (a + i))

@@ -2,21 +2,21 @@
 
 #![tactic(auto)]
 
-ghost use Rattle.std.specs.Prelude.{◌≡◌, suc, ◌%◌, ◌≤◌, T, length, ◌==◌};
+ghost use Rattle.std.specs.Prelude.{◌≡◌, suc, ◌%◌, ◌≤◌, T, ◌==◌};
 ghost use Rattle.layout.specs.Layout.{byte_size};
 ghost use Rattle.access.specs.Access.{nowhere, fault_at, needed, misaligned, denied, access_of, fields_access};
 
 use answer::Answer;
 
 // The page that was asked, and the right that was wanted of it.
-#[derive(Clone, Copy)]
+#[derive(Clone, Copy, PartialEq, Eq)]
 pub struct Wanted {
     pub page: u64,
     pub right: u8,
 }
 
 impl Wanted {
-    // No page was asked.
+    // No page was asked. It is no Option: `nothing_wanted` (specs/Access) says page 256 and right 0, and theorem `Reasons` speaks of them.
     pub const NOTHING: Wanted = Wanted {
         page: 256,
         right: 0,
@@ -24,7 +24,7 @@ impl Wanted {
 }
 
 // Where a fault lies: the address of the faulting element's first byte, and the page and the right that were wanted there.
-#[derive(Clone, Copy)]
+#[derive(Clone, Copy, PartialEq, Eq)]
 pub struct FaultPlace {
     pub address: u64,
     pub wanted: Wanted,
@@ -43,24 +43,17 @@ impl FaultPlace {
 }
 
 // A fault: its answer, and where it lies.
-#[derive(Clone, Copy)]
+#[derive(Clone, Copy, PartialEq, Eq)]
 pub struct Fault {
     pub answer: Answer,
     pub place: FaultPlace,
 }
 
-// What the access test comes to.
-#[derive(Clone, Copy)]
-pub enum AccessTest {
-    Granted,
-    Faulted(Fault),
-}
-
-fn fault_at(answer: Answer, address: u64, wanted: Wanted) -> AccessTest
+fn fault_at(answer: Answer, address: u64, wanted: Wanted) -> Result<(), Fault>
     ensures { result ≡ fault_at answer address wanted }
 {
     let place = FaultPlace { address, wanted };
-    AccessTest::Faulted(Fault { answer, place })
+    Err(Fault { answer, place })
 }
 
 // 4 or 6.
@@ -83,7 +76,7 @@ pub fn denied_answer(store: bool) -> Answer
     Answer::LoadAccess
 }
 
-// The right that a page needs.
+// The right that a page needs, 1 or 2: a number, since the caller lends the pages' rights as bytes (the C interface).
 pub fn right_needed(store: bool) -> u8
     ensures { result ≡ needed store }
 {
@@ -99,8 +92,8 @@ pub fn aligned(a: u64, n: u64) -> bool
 }
 
 // The element of n bytes at address a, in a memory of so many bytes.
-pub fn access(rights: &[u8], memory: usize, store: bool, a: u64, n: u64) -> AccessTest
-    requires { (length rights.now ≡ 256) × ((memory ≤ 65536) × T (byte_size n)) }
+pub fn access(rights: &[u8; 256], memory: usize, store: bool, a: u64, n: u64) -> Result<(), Fault>
+    requires { (memory ≤ 65536) × T (byte_size n) }
     ensures { result ≡ access_of rights.now memory store a n }
 {
     if !aligned(a, n) {
@@ -117,28 +110,27 @@ pub fn access(rights: &[u8], memory: usize, store: bool, a: u64, n: u64) -> Acce
     let own = rights[page as usize];
     let right = right_needed(store);
     if right <= own {
-        return AccessTest::Granted;
+        return Ok(());
     }
     fault_at(denied_answer(store), a, Wanted { page, right })
 }
 
 // The fields of a segment, each of n bytes, upward from the one at address a; nf of them follow it.
-pub fn segment(rights: &[u8], memory: usize, store: bool, a: u64, n: u64, nf: u32) -> AccessTest
-    requires { (length rights.now ≡ 256) × ((memory ≤ 65536) × T (byte_size n)) }
+pub fn segment(
+    rights: &[u8; 256],
+    memory: usize,
+    store: bool,
+    a: u64,
+    n: u64,
+    nf: u32,
+) -> Result<(), Fault>
+    requires { (memory ≤ 65536) × T (byte_size n) }
     ensures { result ≡ fields_access rights.now memory store a n 0 (suc nf) }
 {
-    let last = nf as u64;
     let mut field = a;
-    let mut k: u64 = 0;
-    while k <= last {
-        let check = access(rights, memory, store, field, n);
-        match check {
-            AccessTest::Faulted(_) => return check,
-            AccessTest::Granted => {
-                field = std::num::wrapping_add_u64(field, n);
-                k += 1;
-            }
-        }
+    for _ in 0..=nf {
+        access(rights, memory, store, field, n)?;
+        field = field.wrapping_add(n);
     }
-    AccessTest::Granted
+    Ok(())
 }

@@ -1,4 +1,5 @@
 -- From the test of each element to the definition of the check: what an uncut turn answers where no element faults, and where one does.
+use Rattle.std.specs.Prelude.{Result, Ok, Err, ⊤}
 use Prim.Native.Nat.{ℕ, zero, ◌+◌, ◌-◌, ◌^◌, ◌≤◌, ◌<◌, min}
 use mathlib.Core.Path.{◌≡◌, refl, sym, ap, subst, ◌∙◌}
 use mathlib.Core.Bool.{Bool, true, false, cond}
@@ -11,12 +12,9 @@ use borrow.Author.Tests.{lt-ltb, not-true}
 use Rattle.laws.proofs.Apart.{both_left, both_right}
 use Rattle.answer.specs.declared.Answer.{Answer}
 use Rattle.answer.specs.declared.Answer.TheVariants.{Illegal}
-use Rattle.answer.specs.declared.Verdict.TheVariants.{Accepted, Refused}
 use Rattle.control.specs.declared.Board.{Board}
 use Rattle.decode.specs.Word.{decode_of}
 use Rattle.access.specs.declared.Fault.{Fault}
-use Rattle.access.specs.declared.AccessTest.{AccessTest}
-use Rattle.access.specs.declared.AccessTest.TheVariants.{Granted, Faulted}
 use Rattle.access.specs.Access.{access_of, field_address, or_next, fields_access}
 use Rattle.refusal.specs.Refusal.{refusal_of}
 use Rattle.plan.specs.declared.Read.TheVariants as R
@@ -48,13 +46,13 @@ pub record Stepping (e : Elementwise) (t : Transfer) : Type 0 where
   pub single : e.dest.nf ≡ 0
   pub action : e.action ≡ A.Transfer t
 
-granted-check : (v : AccessTest) (l : List Write) → check_of (if_granted v (write l)) ≡ v
-granted-check Granted l = refl
-granted-check (Faulted f) l = refl
+granted-check : (v : Result ⊤ Fault) (l : List Write) → check_of (if_granted v (write l)) ≡ v
+granted-check (Ok tt) l = refl
+granted-check (Err f) l = refl
 
-or-granted : (v : AccessTest) → or_next v Granted ≡ v
-or-granted Granted = refl
-or-granted (Faulted f) = refl
+or-granted : (v : Result ⊤ Fault) → or_next v (Ok tt) ≡ v
+or-granted (Ok tt) = refl
+or-granted (Err f) = refl
 
 module _ (b : Board) (rights : List ℕ) (s : Core) (e : Elementwise) (t : Transfer) (u : Stepping e t) (i : ℕ) where
   one_field : fields_access rights (length s.memory) t.store (element_address t i 0) t.bytes 0 1
@@ -75,7 +73,7 @@ module _ (b : Board) (rights : List ℕ) (s : Core) (e : Elementwise) (t : Trans
   effect-test = go (active_of b.vlenb s.registers e.masked i)
     where
       go : (p : Bool) → check_of (cond p (acting_of b rights s e i e.action) inactive)
-          ≡ cond p (access_of rights (length s.memory) t.store (element_address t i 0) t.bytes) Granted
+          ≡ cond p (access_of rights (length s.memory) t.store (element_address t i 0) t.bytes) (Ok tt)
       go true = acting-check
       go false = refl
 
@@ -156,12 +154,12 @@ module _ (b : Board) (word : ℕ) (s : State) where
       rw (e, c)
 
   pub refused-check : (a : Answer)
-      → refusal_of b (length s.registers) (length s.scalars) (length s.memory) s.rights s.control ≡ Refused a
+      → refusal_of b (length s.registers) (length s.scalars) (length s.memory) s.rights s.control ≡ Err a
       → nothing_tested a ≡ access_check_of b word s
   unfolding rejection_at
   refused-check a h = rejected-with a (rw h)
 
-  module _ (h : refusal_of b (length s.registers) (length s.scalars) (length s.memory) s.rights s.control ≡ Accepted) where
+  module _ (h : refusal_of b (length s.registers) (length s.scalars) (length s.memory) s.rights s.control ≡ Ok tt) where
     pub illegal-check : legal_of b s.control (plan_at b word s) ≡ false → nothing_tested Illegal ≡ access_check_of b word s
     unfolding rejection_at
     illegal-check l = rejected-with Illegal (rw (h, l))
@@ -197,20 +195,20 @@ module _ (b : Board) (s : State) (e : Elementwise) (t : Transfer) (u : Stepping 
     wanted = o.place.wanted;
   }
 
-  granted-effect : (i : ℕ) → test_of active s.rights (length s.memory) t i ≡ Granted
+  granted-effect : (i : ℕ) → test_of active s.rights (length s.memory) t i ≡ Ok tt
       → faults (effect_of b s.rights (core_of s) e i) ≡ false
   granted-effect i h = check-granted (effect_of b s.rights (core_of s) e i) (sym (effect-test b s.rights (core_of s) e t u i ∙ h))
 
-  faulted-effect : (i : ℕ) (f : Fault) → test_of active s.rights (length s.memory) t i ≡ Faulted f
+  faulted-effect : (i : ℕ) (f : Fault) → test_of active s.rights (length s.memory) t i ≡ Err f
       → effect_of b s.rights (core_of s) e i ≡ fault f
   faulted-effect i f h = check-fault (effect_of b s.rights (core_of s) e i) f (sym (effect-test b s.rights (core_of s) e t u i ∙ h))
 
   -- an element by its distance from vstart
-  from_start : (n : ℕ) → ((j : ℕ) → j < n → test_of active s.rights (length s.memory) t (s.control.vstart + j) ≡ Granted)
+  from_start : (n : ℕ) → ((j : ℕ) → j < n → test_of active s.rights (length s.memory) t (s.control.vstart + j) ≡ Ok tt)
       → (i : ℕ) → s.control.vstart ≤ i → i < s.control.vstart + n → faults (effect_of b s.rights (core_of s) e i) ≡ false
   from_start n h i l m =
       let z : s.control.vstart + (i - s.control.vstart) ≡ i = omega arith in
-      granted-effect i (subst (λ (k : ℕ). test_of active s.rights (length s.memory) t k ≡ Granted) z
+      granted-effect i (subst (λ (k : ℕ). test_of active s.rights (length s.memory) t k ≡ Ok tt) z
       (h (i - s.control.vstart) (omega arith)))
 
   tested-checked : (r : Checked) → Tested active s.rights (length s.memory) t s.control.vstart (e.end - s.control.vstart) r

@@ -1,4 +1,5 @@
 -- The check of a word by the tests of the code: refused, another word, illegal, or the elements of a unit-stride access.
+use Rattle.std.specs.Prelude.{Result, Ok, Err, ⊤}
 use Prim.Native.Nat.{ℕ, ◌+◌, ◌-◌, ◌*◌, ◌/◌, ◌≤◌, ◌<◌}
 use mathlib.Core.Path.{◌≡◌, refl, sym, ap, subst, ◌∙◌}
 use mathlib.Core.Bool.{Bool, true, false, ◌||◌}
@@ -12,13 +13,11 @@ use lib.Dec.{T, eqb}
 use borrow.Author.Tests.{eqb-true}
 use Rattle.answer.specs.declared.Answer.{Answer}
 use Rattle.answer.specs.declared.Answer.TheVariants.{Illegal}
-use Rattle.answer.specs.declared.Verdict.{Verdict}
-use Rattle.answer.specs.declared.Verdict.TheVariants.{Accepted, Refused}
 use Rattle.control.specs.declared.Board.{Board}
 use Rattle.control.specs.declared.Control.{Control}
 use Rattle.control.specs.Board.{Valid}
 use Rattle.control.specs.Vtype.{vlmax_of}
-use Rattle.control.proofs.Laws.{Possible, possible-apart}
+use Rattle.control.proofs.Laws.{Possible, possible-apart, valid}
 use Rattle.decode.specs.declared.Access.{Access}
 use Rattle.decode.specs.declared.Mode.{Mode}
 use Rattle.decode.specs.declared.Mode.TheVariants as M
@@ -175,28 +174,27 @@ module _ (b : Board) (file x memory rights : List ℕ) (c : Control) (e : Elemen
   possible = possible-apart b c (the_facts b e file x memory rights c 0 l).acceptable.possible
 
   unit-plan : UnitPlan b e
-  unit-plan = subst (PlanUnit b) p (plan-unit b x c l.valid possible d f u)
+  unit-plan = subst (PlanUnit b) p (plan-unit b x c (valid b) possible d f u)
 
   few-elements : e.end ≤ 128
-  few-elements = omega (arith, (the-sound b e file x memory rights c 0 l).end, l.valid.most)
+  few-elements = omega (arith, (the-sound b e file x memory rights c 0 l).end, (valid b).most)
 
   early : c.vstart < 128
-  early = omega (arith, possible.vstart, l.valid.most)
+  early = omega (arith, possible.vstart, (valid b).most)
 
   few_bytes : (e.end - c.vstart) * unit-plan.transfer.bytes ≤ 128
   few_bytes =
       let n : ℕ = unit-plan.transfer.bytes in
       let rest : (e.end - c.vstart) * n ≤ e.end * n = mul-le-mul_right n (omega arith) in
       let fit = elements-fit b c e (elements-of-legal b c e (the_facts b e file x memory rights c 0 l).legal) in
-      omega (arith, rest, unit-plan.short fit, l.valid.most)
+      omega (arith, rest, unit-plan.short fit, (valid b).most)
 
-  pub is-packed : (t : Transfer) → e.action ≡ A.Transfer t → Packed rights (length memory) t c.vstart (e.end - c.vstart)
+  pub is-packed : (t : Transfer) → e.action ≡ A.Transfer t → Packed (length memory) t c.vstart (e.end - c.vstart)
   is-packed t q =
       let a = (the_facts b e file x memory rights c 0 l).acceptable in
-      subst (λ (y : Transfer). Packed rights (length memory) y c.vstart (e.end - c.vstart))
+      subst (λ (y : Transfer). Packed (length memory) y c.vstart (e.end - c.vstart))
       (one-transfer e.action unit-plan.transfer t unit-plan.stepping.action q)
       (record {
-        rights-length = a.rights-length;
         memory-length = a.memory-length;
         size = unit-plan.size;
         stride = unit-plan.stride;
@@ -225,12 +223,12 @@ module _ (b : Board) (word : ℕ) (file x memory rights : List ℕ) (c : Control
   abbrev before : State
   before = given file x memory rights c
 
-  pub refused-word : (v : Verdict) (a : Answer) (r : Checked) → v ≡ refusal_of b (length file) (length x) (length memory) rights c
-      → v ≡ Refused a → r ≡ nothing_tested a → r ≡ access_check_of b word before
+  pub refused-word : (v : Result ⊤ Answer) (a : Answer) (r : Checked) → v ≡ refusal_of b (length file) (length x) (length memory) rights c
+      → v ≡ Err a → r ≡ nothing_tested a → r ≡ access_check_of b word before
   refused-word v a r q h e = e ∙ refused-check b word before a (sym q ∙ h)
 
-  module _ (v : Verdict) (d : Instruction) (u : Bool)
-      (q : v ≡ refusal_of b (length file) (length x) (length memory) rights c) (h : v ≡ Accepted) (k : d ≡ decode_of word)
+  module _ (v : Result ⊤ Answer) (d : Instruction) (u : Bool)
+      (q : v ≡ refusal_of b (length file) (length x) (length memory) rights c) (h : v ≡ Ok tt) (k : d ≡ decode_of word)
       (i : u ≡ is_unit_stride d) where
     pub other_word : (r : Checked) → u ≡ false → r ≡ nothing_tested Illegal → r ≡ access_check_of b word before
     other_word r n e = e ∙ other-check b word before (sym q ∙ h) (ap is_unit_stride (sym k) ∙ sym i ∙ n)
@@ -245,20 +243,20 @@ module _ (b : Board) (word : ℕ) (file x memory rights : List ℕ) (c : Control
           (subst (λ (y : Instruction). legal_of b c (plan_of b x c y) ≡ false) k (illegal-checked b c (plan_of b x c d) (sym w ∙ f)))
 
       -- a unit-stride access does not take one turn
-      pub no-one-turn : (r : Checked) (t : OneTurn) → Valid b → Fits d → p ≡ P.OneTurn t → r ≡ access_check_of b word before
-      no-one-turn r t g f e =
+      pub no-one-turn : (r : Checked) (t : OneTurn) → Fits d → p ≡ P.OneTurn t → r ≡ access_check_of b word before
+      no-one-turn r t f e =
           let possible = accepted-possible b (length file) (length x) (length memory) rights c v q h in
-          absurd (subst (PlanUnit b) (one-turn-planned b x c d p w t e).0 (plan-unit b x c g possible d f is-unit))
+          absurd (subst (PlanUnit b) (one-turn-planned b x c d p w t e).0 (plan-unit b x c (valid b) possible d f is-unit))
 
-      module _ (e : Elementwise) (g : Valid b) (f : p ≡ P.Elements e) where
+      module _ (e : Elementwise) (f : p ≡ P.Elements e) where
         runs : Runnable b before e
-        runs = elements-runnable b word file x memory rights c v d p q h k w e g f
+        runs = elements-runnable b word file x memory rights c v d p q h k w e f
 
         planned : plan_of b x c d ≡ P.Elements e
         planned = (elements-planned b x c d p w e f).0
 
         pub elements-ready :
-            ((t : Transfer) → e.action ≡ A.Transfer t → Packed rights (length memory) t c.vstart (e.end - c.vstart))
+            ((t : Transfer) → e.action ≡ A.Transfer t → Packed (length memory) t c.vstart (e.end - c.vstart))
             × MaskInside (length file) b.vlenb c.vstart (e.end - c.vstart)
         elements-ready =
             let fits = decoded-fits word d k in (
@@ -271,8 +269,3 @@ module _ (b : Board) (word : ℕ) (file x memory rights : List ℕ) (c : Control
             → Tested (active_of b.vlenb file e.masked) rights (length memory) t c.vstart (e.end - c.vstart) r)
             → r ≡ access_check_of b word before
         elements-word r = elements-check b file x memory rights c e runs d (decoded-fits word d k) planned is-unit word r k
-
--- ---- the check on a board b is that on the board that a promise names, where b is that board
-pub checked-by : (b named : Board) (word : ℕ) (s : State) (r : Checked) → b ≡ named → r ≡ access_check_of b word s
-    → r ≡ access_check_of named word s
-checked-by b named word s r e h = rw (← e) h

@@ -1,8 +1,7 @@
 -- The access check in a teacher's words (document 02, A2 and A9): what it says beforehand of the turn, as a statement on every word and
 -- state, on a board b.
-use Rattle.std.specs.Prelude.{ℕ, ◌-◌, ◌^◌, ◌≤◌, ◌≡◌, true, false, length}
+use Rattle.std.specs.Prelude.{ℕ, ◌-◌, ◌^◌, ◌≤◌, ◌≡◌, true, false, length, Ok}
 use Rattle.answer.specs.declared.Answer.TheVariants.{Finished, Paused, Illegal}
-use Rattle.answer.specs.declared.Verdict.TheVariants.{Accepted}
 use Rattle.control.specs.declared.Board.{Board}
 use Rattle.decode.specs.Word.{decode_of}
 use Rattle.access.specs.Access.{nothing_wanted}
@@ -36,7 +35,7 @@ pub record Foretold (b : Board) : Type 0 where
   pub two-pages : (word : ℕ) (s : State) → (access_check_of b word s).pages ≤ 2
   -- "any word but a plain, mask or whole-register unit-stride access is 2", on every state that is not refused
   pub other-words : (word : ℕ) (s : State)
-      → refusal_of b (length s.registers) (length s.scalars) (length s.memory) s.rights s.control ≡ Accepted
+      → refusal_of b (length s.registers) (length s.scalars) (length s.memory) s.rights s.control ≡ Ok tt
       → is_unit_stride (decode_of word) ≡ false → access_check_of b word s ≡ nothing_tested Illegal
   -- after a refusal or 2, element 0 and 0 pages
   pub nothing : (word : ℕ) (s : State) → changes_nothing (access_check_of b word s).answer ≡ true

@@ -3,7 +3,6 @@
 #![tactic(auto)]
 
 ghost use Rattle.std.specs.Prelude.{◌≡◌, ◌-◌, length};
-ghost use Rattle.control.specs.Board.{Valid, base, small};
 ghost use Rattle.plan.specs.declared.Action.TheVariants as Act;
 ghost use Rattle.plan.specs.declared.Transfer.{Transfer};
 ghost use Rattle.machine.specs.Call.{given};
@@ -12,7 +11,7 @@ ghost use Rattle.unit_stride.specs.Tested.{Packed, MaskInside, Tested};
 ghost use Rattle.access_check.specs.AccessCheck.{unit_stride_mode, is_unit_stride, nothing_tested, access_check_of};
 
 use access::Wanted;
-use answer::{Answer, Verdict};
+use answer::Answer;
 use control::{Board, Control};
 use decode::{Instruction, Mode};
 use plan::{Action, Elementwise, Plan};
@@ -65,19 +64,18 @@ fn is_unit_stride(instruction: Instruction) -> bool
 fn elements(
     board: Board,
     registers: &[u8],
-    rights: &[u8],
+    rights: &[u8; 256],
     memory: usize,
     vstart: u64,
     e: Elementwise,
 ) -> Checked
-    requires { ((t : Transfer) → e.action ≡ Act.Transfer t → Packed rights.now memory t vstart (e.end - vstart))
+    requires { ((t : Transfer) → e.action ≡ Act.Transfer t → Packed memory t vstart (e.end - vstart))
         × MaskInside (length registers.now) board.vlenb vstart (e.end - vstart) }
     ensures { (t : Transfer) → e.action ≡ Act.Transfer t
         → Tested (active_of board.vlenb registers.now e.masked) rights.now memory t vstart
         (e.end - vstart) result }
 {
-    let action = e.action;
-    match action {
+    match e.action {
         Action::Compute(_) => nothing_tested(Answer::Illegal),
         Action::Permute(_) => nothing_tested(Answer::Illegal),
         Action::Transfer(t) => unit_stride::tested(
@@ -88,13 +86,13 @@ fn elements(
             e.masked,
             t,
             vstart,
-            control::less(e.end, vstart),
+            e.end.saturating_sub(vstart),
         ),
     }
 }
 
-// Every word, on a board: refusals 32 to 36, then 2, then the elements.
-fn check_on(
+// What an uncut turn of the word would answer on a board, where it is a unit-stride access: refusals 32 to 36, then 2, then the elements.
+pub fn check(
     board: Board,
     word: u32,
     registers: &[u8],
@@ -103,11 +101,10 @@ fn check_on(
     rights: &[u8],
     control: Control,
 ) -> Checked
-    requires { Valid board }
     ensures { result ≡ access_check_of board word
         (given registers.now scalars.now memory.now rights.now control) }
 {
-    let verdict = refusal::refusal_on(
+    let refused = refusal::refusal(
         board,
         registers.len(),
         scalars.len(),
@@ -115,62 +112,23 @@ fn check_on(
         rights,
         control,
     );
-    if let Verdict::Refused(answer) = verdict {
+    if let Err(answer) = refused {
         return nothing_tested(answer);
     }
     let instruction = decode::decode(word);
     if !is_unit_stride(instruction) {
         return nothing_tested(Answer::Illegal);
     }
+    // what is not refused has 32 scalars and 256 rights
+    let Ok(scalars) = <&[u64; 32]>::try_from(scalars) else {
+        unreachable!()
+    };
+    let Ok(rights) = <&[u8; 256]>::try_from(rights) else {
+        unreachable!()
+    };
     match legality::checked(board, scalars, control, instruction) {
         Plan::Illegal => nothing_tested(Answer::Illegal),
         Plan::OneTurn(_) => nothing_tested(Answer::Illegal),
         Plan::Elements(e) => elements(board, registers, rights, memory.len(), control.vstart, e),
     }
-}
-
-// What an uncut turn of the word would answer, where it is a unit-stride access.
-pub fn check(
-    word: u32,
-    registers: &[u8],
-    scalars: &[u64],
-    memory: &[u8],
-    rights: &[u8],
-    control: Control,
-) -> Checked
-    ensures { result ≡ access_check_of base word
-        (given registers.now scalars.now memory.now rights.now control) }
-{
-    check_on(
-        Board::base(),
-        word,
-        registers,
-        scalars,
-        memory,
-        rights,
-        control,
-    )
-}
-
-// The same on the smaller board.
-pub fn small_check(
-    word: u32,
-    registers: &[u8],
-    scalars: &[u64],
-    memory: &[u8],
-    rights: &[u8],
-    control: Control,
-) -> Checked
-    ensures { result ≡ access_check_of small word
-        (given registers.now scalars.now memory.now rights.now control) }
-{
-    check_on(
-        Board::small(),
-        word,
-        registers,
-        scalars,
-        memory,
-        rights,
-        control,
-    )
 }

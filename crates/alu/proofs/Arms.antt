@@ -50,7 +50,7 @@ pub clause : (w : ℕ) (rm : Vxrm) (a b d c : ℕ) (o v : Op) (r : Element)
     → o ≡ v → r ≡ element_of w rm a b d c v → r ≡ element_of w rm a b d c o
 clause w rm a b d c = case (element_of w rm a b d c)
 
--- through `plain`
+-- through `Element::exact`
 pub plain-clause : (w : ℕ) (rm : Vxrm) (a b d c : ℕ) (o v : Op) (x : ℕ) (r : Element)
     → o ≡ v → r ≡ exact x → exact x ≡ element_of w rm a b d c v → r ≡ element_of w rm a b d c o
 plain-clause w rm a b d c o v x r e p q = clause w rm a b d c o v r e (p ∙ q)
@@ -59,3 +59,5 @@ pub exact-is : (x y : ℕ) → x ≡ y → exact x ≡ exact y
 exact-is x y e = ap exact e
 
 pub ruleset ways = (clause, plain-clause, exact-is)
+
+pub ruleset arms = (ways, fits)

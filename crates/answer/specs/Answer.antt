@@ -1,6 +1,6 @@
 -- The number of each answer: the table of document 01, 'One turn and its answer', less one that no call gives (document 02, A7). 4 to 7 are
 -- the causes of the privileged manual.
-use Rattle.std.specs.Prelude.{ℕ}
+use Rattle.std.specs.Prelude.{ℕ, Result, Ok, Err}
 use Rattle.answer.specs.declared.Answer.{Answer}
 use Rattle.answer.specs.declared.Answer.TheVariants.{Finished, Paused, Illegal, LoadMisaligned, LoadAccess, StoreMisaligned}
 use Rattle.answer.specs.declared.Answer.TheVariants.{StoreAccess, BadRegisters, BadScalars, BadMemory, BadRights, BadControl}
@@ -27,3 +27,8 @@ number_of BadRights = 35
 number_of BadControl = 36
 -- no such register group
 number_of NoGroup = 38
+
+-- the answer of a call that gives a value, or the answer that refuses it
+abbrev pub answer_of : {T : Type 0} → Result T Answer → Answer
+answer_of (Ok x) = Finished
+answer_of (Err a) = a

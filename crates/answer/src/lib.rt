@@ -2,11 +2,8 @@
 
 #![tactic(auto)]
 
-ghost use Rattle.std.specs.Prelude.{◌≡◌};
-ghost use Rattle.answer.specs.Answer.{number_of};
-
-// What a call comes to; `number` gives the paper's number of each.
-#[derive(Clone, Copy)]
+// What a call comes to; `u64::from` gives the paper's number of each.
+#[derive(Clone, Copy, PartialEq, Eq)]
 pub enum Answer {
     Finished,
     Paused,
@@ -23,30 +20,28 @@ pub enum Answer {
     NoGroup,
 }
 
-// What refusals 32 to 36 come to: nothing against a state, or the answer that refuses it.
-#[derive(Clone, Copy)]
-pub enum Verdict {
-    Accepted,
-    Refused(Answer),
-}
-
 // The answer's number in document 01.
-pub fn number(answer: Answer) -> u64
-    ensures { result ≡ number_of answer }
-{
-    match answer {
-        Answer::Finished => 0,
-        Answer::Paused => 1,
-        Answer::Illegal => 2,
-        Answer::LoadMisaligned => 4,
-        Answer::LoadAccess => 5,
-        Answer::StoreMisaligned => 6,
-        Answer::StoreAccess => 7,
-        Answer::BadRegisters => 32,
-        Answer::BadScalars => 33,
-        Answer::BadMemory => 34,
-        Answer::BadRights => 35,
-        Answer::BadControl => 36,
-        Answer::NoGroup => 38,
+impl From<Answer> for u64 {
+    ghost use Rattle.std.specs.Prelude.{◌≡◌};
+    ghost use Rattle.answer.specs.Answer.{number_of};
+
+    ghost from_gives = { λ answer number. number ≡ number_of answer };
+
+    fn from(answer: Answer) -> u64 {
+        match answer {
+            Answer::Finished => 0,
+            Answer::Paused => 1,
+            Answer::Illegal => 2,
+            Answer::LoadMisaligned => 4,
+            Answer::LoadAccess => 5,
+            Answer::StoreMisaligned => 6,
+            Answer::StoreAccess => 7,
+            Answer::BadRegisters => 32,
+            Answer::BadScalars => 33,
+            Answer::BadMemory => 34,
+            Answer::BadRights => 35,
+            Answer::BadControl => 36,
+            Answer::NoGroup => 38,
+        }
     }
 }

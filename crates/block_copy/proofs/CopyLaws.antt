@@ -1,20 +1,23 @@
 -- Elements that lie one after the other in memory, moved as one copy: each of them is moved so, and none faults.
-use Prim.Native.Nat.{ℕ, zero, suc, ◌+◌, ◌-◌, ◌*◌, ◌/◌, ◌%◌, ◌^◌, ◌≤◌, ◌<◌}
+use Rattle.std.specs.Prelude.{Ok}
+use Prim.Native.Nat.{ℕ, zero, suc, ◌+◌, ◌-◌, ◌*◌, ◌/◌, ◌%◌, ◌≤◌, ◌<◌}
 use mathlib.Core.Path.{◌≡◌, refl, sym, ap, subst, ◌∙◌}
 use mathlib.Core.Bool.{Bool, true, false, not, ◌&&◌, ◌||◌, cond, and_assoc}
 use mathlib.Core.List.{List}
-use native.Mathlib.Numerals.{add-one}
 use native.Mathlib.Nat.{add-zero, add-suc}
 use native.Mathlib.Omega.{arith}
-use lib.ListN.{length, get_or, set, length-set}
+use lib.ListN.{length, get_or, drop, length-set}
+use lib.Seq.{paste, paste-suc}
+use borrow.Rule.Slice.PartMut.{put_mid}
+use Rattle.std.specs.List.{between}
+use Rattle.std.proofs.lemmas.List.{get_or-drop, length-drop, take-take}
+use Rattle.std.proofs.lemmas.List.Edits.{length-between, paste_none}
+use Rattle.std.proofs.lemmas.Slice.{put_mid-paste}
 use lib.Dec.{T, eqb}
-use mir.Syntax.{w64}
-use mir.Val.{Fits}
 use borrow.Author.Tests.{eqb-true, eqb-false, not-true, not-false}
 use Rattle.laws.proofs.Apart.{both_left, both_right}
 use Rattle.answer.specs.declared.Answer.{Answer}
 use Rattle.answer.specs.declared.Answer.TheVariants.{Finished}
-use Rattle.access.specs.declared.AccessTest.TheVariants.{Granted}
 use Rattle.access.proofs.Reason.{reasons}
 use Rattle.layout.specs.Layout.{bytes_at, with_bytes, element_at, with_element}
 use Rattle.layout.proofs.BytesLaws.{Bytes}
@@ -23,11 +26,11 @@ use Rattle.control.specs.declared.Board.{Board}
 use Rattle.control.specs.declared.Control.{Control}
 use Rattle.group.specs.Group.{nfields}
 use Rattle.access.specs.Access.{access_of, fields_access}
-use Rattle.access.proofs.AccessLaws.{granted-facts, testing-none, testing-more, testing-done}
+use Rattle.access.proofs.AccessLaws.{granted-facts, testing-none, testing-done}
 use Rattle.plan.specs.declared.Action.TheVariants as A
 use Rattle.machine.specs.State.{Core}
 use Rattle.execute.specs.Step.{core_at, Did, Ran, none, more, Attempted, done}
-use Rattle.execute.proofs.StepLaws.{first-inside, moving-none, moving-more, moving-done, moved, transfers-at, acted}
+use Rattle.execute.proofs.StepLaws.{first-inside, moving-none, moving-last, moved, transfers-at, acted}
 use Rattle.unit_stride.proofs.PackedLaws.{onward}
 use Rattle.plan.specs.declared.Read.{Read}
 use Rattle.plan.specs.declared.Read.TheVariants as R
@@ -42,27 +45,22 @@ use Rattle.block_copy.specs.Copy.{copied, starts_at, in_order_of, AllGranted, Co
 -- ---- bytes
 
 module _ (to : List ℕ) (at : ℕ) (from : List ℕ) (a : ℕ) where
-  -- while bytes are copied: k of them have been
-  pub record Copying (n : ℕ) (now : List ℕ) (k : ℕ) : Type 0 where
-    pub most : k ≤ n
-    pub same : length now ≡ length to
-    pub list : now ≡ copied to at from a k
-
-  pub copying-none : (n : ℕ) → Copying n to 0
+  copied-pasted : (n : ℕ) → at + n ≤ length to → a + n ≤ length from → copied to at from a n ≡ paste to at (drop a from) n
   unfolding copied
-  copying-none n = record { most = omega arith; same = refl; list = refl }
+  copied-pasted zero p q = paste_none to at (drop a from)
+  copied-pasted (suc n) p q =
+      let l : n < length (drop a from) = rw (length-drop a from) (omega arith) in
+      rw (copied-pasted n (omega arith) (omega arith), ← get_or-drop a from n 0) (paste-suc to at (drop a from) n 0 (omega arith) l)
 
-  pub copying-more : (n : ℕ) (now next : List ℕ) (k : ℕ) → Copying n now k → k < n → next ≡ set now (at + k) (get_or from (a + k) 0)
-      → Copying n next (k + 1)
-  unfolding copied
-  copying-more n now next k z l e = record {
-    most = omega arith;
-    same = ap length e ∙ simp length-set z.same;
-    list = e ∙ rw (add-one k, z.list);
-  }
-
-  pub copying-done : (n : ℕ) (now : List ℕ) (k : ℕ) → Copying n now k → n ≤ k → now ≡ copied to at from a n
-  copying-done n now k z l = let e : n ≡ k = omega (arith, z.most) in rw e z.list
+  -- the part of the one list, as the library leaves it with the part of the other
+  pub part-copied : (n : ℕ) (part : List ℕ) → at + n ≤ length to → a + n ≤ length from → part ≡ between a (a + n) from
+      → put_mid at (at + n - at) to part ≡ copied to at from a n
+  part-copied n part p q e =
+      let s : a + n - a ≡ n = omega arith in
+      let k : at + n - at ≡ n = omega arith in
+      let l : n ≡ length (between a (a + n) from) = rw (length-between from a (a + n) q) (sym s) in
+      put_mid-paste at (at + n - at) to part (between a (a + n) from) n e (sym k) l
+      ∙ rw (s, take-take n n (drop a from) (omega arith), copied-pasted n p q)
 
   length-copied : (n : ℕ) → length (copied to at from a n) ≡ length to
   unfolding copied
@@ -103,9 +101,6 @@ module _ (rights : List ℕ) (memory : ℕ) (t : Transfer) (v n : ℕ) where
   all-granted _ (first-faults k f l h e) q =
       absurd (finished-never f.answer q
       (reason-traps rights memory t.store t.bytes f (reasons.element rights memory t.store _ t.bytes f e)))
-
-  pub none-granted : AllGranted rights memory t v n false
-  none-granted = record { each = λ e. absurd (subst T (sym e) tt) }
 
 -- ---- what the tests say
 
@@ -174,7 +169,7 @@ module _ (file memory : List ℕ) (at a : ℕ) where
 
 module _ (b : Board) (rights file memory file' memory' : List ℕ) (e : Elementwise) (t : Transfer) (o : Ordered e t)
     (q : e.action ≡ A.Transfer t) (m : length memory ≤ 65536) (i a : ℕ) (p : a ≡ element_address t i 0)
-    (f : access_of rights (length memory) t.store a t.bytes ≡ Granted)
+    (f : access_of rights (length memory) t.store a t.bytes ≡ Ok tt)
     (r : file' ≡ cond t.store file (with_element b.vlenb file e.dest.reg e.dest.eew i (bytes_at memory a t.bytes)))
     (s : memory' ≡ cond t.store (with_bytes memory a t.bytes (element_at b.vlenb file e.dest.reg e.dest.eew i)) memory) where
   inside : a + t.bytes ≤ length memory
@@ -183,13 +178,12 @@ module _ (b : Board) (rights file memory file' memory' : List ℕ) (e : Elementw
   one_field : e.dest.nf < 1
   one_field = omega (arith, o.single)
 
-  field-granted : Granted ≡ fields_access rights (length memory) t.store a t.bytes 0 (nfields e.dest)
+  field-granted : Ok tt ≡ fields_access rights (length memory) t.store a t.bytes 0 (nfields e.dest)
   field-granted =
       let here = testing-none rights (length memory) t.store a t.bytes e.dest.nf a 0 (record { fits = omega (arith, inside) })
       refl refl in
-      testing-done rights (length memory) t.store a t.bytes e.dest.nf _ 1
-      (testing-more rights (length memory) t.store a t.bytes e.dest.nf a 0 here (omega arith) Granted (sym f) _ refl refl)
-      one_field
+      testing-done rights (length memory) t.store a t.bytes e.dest.nf a 0 here (omega arith) (Ok tt) (sym f) tt refl
+      (omega (arith, one_field))
 
   all_moved : (x : List ℕ) (c : Control) → core_at file' memory' x c
       ≡ put_all b.vlenb (each_field (field_write b.vlenb file memory t.store e.dest t.bytes i a) 0 (nfields e.dest))
@@ -199,19 +193,18 @@ module _ (b : Board) (rights file memory file' memory' : List ℕ) (e : Elementw
       let n = t.bytes in
       let none = moving-none b.vlenb file memory t.store g n i a in
       let room : a + nfields g * n ≤ length memory = rw o.single (omega (arith, inside)) in
-      moving-done b.vlenb file memory t.store g n i a file' memory' _ _ 1
-      (moving-more b.vlenb file memory t.store g n i a file memory g.reg a 0 none (omega arith) file' memory' _ m room r s refl)
-      one_field
+      moving-last b.vlenb file memory t.store g n i a file memory g.reg a 0 none (omega arith) (omega (arith, o.single)) file' memory' _ m room
+      r s refl
 
   element-moved : (x : List ℕ) (c : Control)
-      → Did b.vlenb (effect_of b rights (core_at file memory x c) e i) (core_at file memory x c) Granted (core_at file' memory' x c)
+      → Did b.vlenb (effect_of b rights (core_at file memory x c) e i) (core_at file memory x c) (Ok tt) (core_at file' memory' x c)
   unfolding acting_of
   element-moved x c =
       let s₀ : Core = core_at file memory x c in
       let s₁ : Core = core_at file' memory' x c in
       acted b rights s₀ e i true (rw o.unmasked) refl q
-      (transfers-at b.vlenb rights s₀ s₁ t e.dest Granted a i 0 _ (sym (o.offset b.vlenb file i)) p
-      (moved b.vlenb rights file memory file' memory' t.store e.dest t.bytes i a Granted field-granted x c refl all_moved))
+      (transfers-at b.vlenb rights s₀ s₁ t e.dest (Ok tt) a i 0 _ (sym (o.offset b.vlenb file i)) p
+      (moved b.vlenb rights file memory file' memory' t.store e.dest t.bytes i a (Ok tt) field-granted x c refl all_moved))
 
 -- ---- all elements
 
@@ -223,26 +216,22 @@ goes_on false ordered h = (refl, not-false ordered h)
 abbrev place_of : Board → Elementwise → Transfer → ℕ → ℕ
 place_of b e t v = b.vlenb * e.dest.reg + v * t.bytes
 
-module _ (b : Board) (rights : List ℕ) (size memory : ℕ) (e : Elementwise) (t : Transfer) (v n : ℕ)
-    (g : Copyable b size rights memory e t v n) (i : Bool) (k : i ≡ in_order_of e t) (h : (eqb n 0 || not i) ≡ false) where
+module _ (b : Board) (size memory : ℕ) (e : Elementwise) (t : Transfer) (v n : ℕ)
+    (g : Copyable b size memory e t v n) (i : Bool) (k : i ≡ in_order_of e t) (h : (eqb n 0 || not i) ≡ false) where
   are-ordered : Ordered e t
   are-ordered = in_order e t (sym k ∙ (goes_on (eqb n 0) i h).1)
 
   some : 1 ≤ n
   some = let z : n ≡ 0 → ⊥ = eqb-false n 0 (goes_on (eqb n 0) i h).0 in omega arith
 
-  pub is-packed : Packed rights memory t v n
+  pub is-packed : Packed memory t v n
   is-packed = record {
-    rights-length = g.rights-length;
     memory-length = g.memory-length;
     size = g.bytes some;
     stride = are-ordered.stride;
     few = g.few;
     short = g.short some;
   }
-
-  pub bytes-fits : Fits w64 (n * t.bytes)
-  bytes-fits = record { fits = omega (arith, g.short some) }
 
   pub file-room : place_of b e t v + n * t.bytes ≤ size
   file-room =
@@ -252,26 +241,16 @@ module _ (b : Board) (rights : List ℕ) (size memory : ℕ) (e : Elementwise) (
       let all : n ≡ suc (n - 1) = omega (arith, some) in
       rw all (omega arith)
 
-  module _ (l : size < 2 ^ 64) where
-    pub register-fits : Fits w64 (b.vlenb * e.dest.reg)
-    register-fits = record { fits = omega (arith, file-room) }
-
-    pub element-fits : Fits w64 (v * t.bytes)
-    element-fits = record { fits = omega (arith, file-room) }
-
-    pub at-fits : Fits w64 (place_of b e t v)
-    at-fits = record { fits = omega (arith, file-room) }
-
-  module _ (a : ℕ) (p : a ≡ element_address t v 0) (r : Bool) (y : AllGranted rights memory t v n r) (u : r ≡ true) where
+  module _ (rights : List ℕ) (a : ℕ) (p : a ≡ element_address t v 0) (r : Bool) (y : AllGranted rights memory t v n r) (u : r ≡ true) where
     begins : a + t.bytes ≤ memory
     begins =
         rw p (rw (add-zero v) at (granted-facts rights memory t.store (element_address t (v + 0) 0) t.bytes (y.each u 0 some)).inside)
 
     address : (j : ℕ) → j < n → a + j * t.bytes ≡ element_address t (v + j) 0
     address j l =
-        rw p (sym (onward rights memory t v n is-packed v j (omega (arith, g.few)) (rw (← p) (omega (arith, begins)))))
+        rw p (sym (onward memory t v n is-packed v j (omega (arith, g.few)) (rw (← p) (omega (arith, begins)))))
 
-    element-granted : (j : ℕ) → j < n → access_of rights memory t.store (a + j * t.bytes) t.bytes ≡ Granted
+    element-granted : (j : ℕ) → j < n → access_of rights memory t.store (a + j * t.bytes) t.bytes ≡ Ok tt
     element-granted j l = rw (address j l) (y.each u j l)
 
     pub memory-room : a + n * t.bytes ≤ memory
@@ -285,7 +264,7 @@ module _ (b : Board) (rights : List ℕ) (size memory : ℕ) (e : Elementwise) (
 -- ---- the copy moves them
 
 module _ (b : Board) (rights file memory : List ℕ) (e : Elementwise) (t : Transfer) (v n : ℕ)
-    (g : Copyable b (length file) rights (length memory) e t v n) (i : Bool) (k : i ≡ in_order_of e t) (h : (eqb n 0 || not i) ≡ false)
+    (g : Copyable b (length file) (length memory) e t v n) (i : Bool) (k : i ≡ in_order_of e t) (h : (eqb n 0 || not i) ≡ false)
     (a : ℕ) (p : a ≡ element_address t v 0) (r : Bool) (y : AllGranted rights (length memory) t v n r) (u : r ≡ true)
     (w : Bytes file) (z : Bytes memory) (x : List ℕ) (c : Control) where
   abbrev at : ℕ
@@ -300,10 +279,10 @@ module _ (b : Board) (rights file memory : List ℕ) (e : Elementwise) (t : Tran
       subst (Ran b rights e v (core_at file memory x c) 0) (sym (rw nil (nothing-moved file memory at a t.store x c))) none
   ran (suc j) l =
       more j (after j) (after (suc j)) (ran j (omega arith))
-      (element-moved b rights _ _ _ _ e t (are-ordered b rights (length file) (length memory) e t v n g i k h) g.action
+      (element-moved b rights _ _ _ _ e t (are-ordered b (length file) (length memory) e t v n g i k h) g.action
       (rw same g.memory-length) (v + j) (a + j * t.bytes)
-      (address b rights (length file) (length memory) e t v n g i k h a p r y u j l)
-      (rw same (element-granted b rights (length file) (length memory) e t v n g i k h a p r y u j l))
+      (address b (length file) (length memory) e t v n g i k h rights a p r y u j l)
+      (rw same (element-granted b (length file) (length memory) e t v n g i k h rights a p r y u j l))
       (rw eew (file-next file memory at a b.vlenb e.dest.reg v t.bytes j refl t.store z))
       (rw eew (memory-next file memory at a b.vlenb e.dest.reg v t.bytes j refl t.store w)) x c)
     where

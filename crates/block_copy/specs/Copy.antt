@@ -1,8 +1,7 @@
 -- For contracts of inner functions, not to be believed: bytes copied one after the other, and what moving elements so relies on.
-use Rattle.std.specs.Prelude.{ℕ, zero, suc, ◌+◌, ◌*◌, ◌≤◌, ◌<◌, ◌≡◌, Bool, true, false, not, ◌&&◌, List, length, get_or, set, T, eqb}
+use Rattle.std.specs.Prelude.{ℕ, zero, suc, ◌+◌, ◌*◌, ◌≤◌, ◌<◌, ◌≡◌, Bool, true, false, not, ◌&&◌, List, get_or, set, T, eqb, Ok}
 use Rattle.control.specs.declared.Board.{Board}
 use Rattle.layout.specs.Layout.{byte_size}
-use Rattle.access.specs.declared.AccessTest.TheVariants.{Granted}
 use Rattle.plan.specs.declared.Read.{Read}
 use Rattle.plan.specs.declared.Read.TheVariants as R
 use Rattle.plan.specs.declared.Action.TheVariants as A
@@ -27,12 +26,11 @@ in_order_of e t = starts_at e.vs2 && (not e.masked && (eqb t.stride t.bytes && e
 
 -- where r is true, none of the n elements from element v up faults
 pub record AllGranted (rights : List ℕ) (memory : ℕ) (t : Transfer) (v n : ℕ) (r : Bool) : Type 0 where
-  pub each : r ≡ true → (j : ℕ) → j < n → test_of all rights memory t (v + j) ≡ Granted
+  pub each : r ≡ true → (j : ℕ) → j < n → test_of all rights memory t (v + j) ≡ Ok tt
 
 -- the n elements from element v up of a plan that loads or stores
-pub record Copyable (b : Board) (size : ℕ) (rights : List ℕ) (memory : ℕ) (e : Elementwise) (t : Transfer) (v n : ℕ) : Type 0 where
+pub record Copyable (b : Board) (size memory : ℕ) (e : Elementwise) (t : Transfer) (v n : ℕ) : Type 0 where
   pub action : e.action ≡ A.Transfer t
-  pub rights-length : length rights ≡ 256
   pub memory-length : memory ≤ 65536
   pub few : v + n ≤ 256
   pub ready : (j : ℕ) → j < n → Ready size b.vlenb e (v + j)

@@ -17,11 +17,7 @@ fn copy(to: &mut [u8], at: usize, from: &[u8], a: usize, n: usize)
     requires { (at + n ≤ length to.old) × (a + n ≤ length from.now) }
     ensures { to.new ≡ copied to.old at from.now a n }
 {
-    let mut k: usize = 0;
-    while k < n {
-        to[at + k] = from[a + k];
-        k += 1;
-    }
+    to[at..at + n].copy_from_slice(&from[a..a + n]);
 }
 
 // Whether each element, of one field, lies after the one before it in memory, and all are active.
@@ -32,36 +28,32 @@ fn in_order(e: Elementwise, t: Transfer) -> bool
     let offset = e.vs2;
     match offset {
         Read::Constant(x) => { (x == 0) & !e.masked & (t.stride == t.bytes) & (dest.nf == 0) }
-        Read::Element(_) => false,
-        Read::Bit(_) => false,
+        Read::Element(_) | Read::Bit(_) => false,
     }
 }
 
 // Whether none of the n elements from element v up faults.
-fn granted(rights: &[u8], memory: usize, t: Transfer, v: u64, n: u64) -> bool
-    requires { Packed rights.now memory t v n }
+fn granted(rights: &[u8; 256], memory: usize, t: Transfer, v: u64, n: u64) -> bool
+    requires { Packed memory t v n }
     ensures { AllGranted rights.now memory t v n result }
 {
     let checked = unit_stride::unmasked(rights, memory, t, v, n);
     let answer = checked.answer;
-    match answer {
-        Answer::Finished => true,
-        _ => false,
-    }
+    matches!(answer, Answer::Finished)
 }
 
 // The n elements from element v up of a plan that loads or stores, where they can be moved as one copy: whether they can.
 pub fn transferred(
     registers: &mut [u8],
     memory: &mut [u8],
-    rights: &[u8],
+    rights: &[u8; 256],
     board: Board,
     e: Elementwise,
     t: Transfer,
     v: u64,
     n: u64,
 ) -> bool
-    requires { Copyable board (length registers.old) rights.now (length memory.old) e t v n }
+    requires { Copyable board (length registers.old) (length memory.old) e t v n }
     ensures { (x : List ℕ) (c : Control) → Attempted board rights.now e v n
         (core_at registers.old memory.old x c) result (core_at registers.new memory.new x c) }
 {

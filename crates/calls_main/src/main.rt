@@ -6,11 +6,17 @@
 
 #![tactic(auto)]
 
-ghost use Rattle.std.specs.Prelude.{◌≤◌, ◌<◌};
-
-use control::Control;
-use csr::{CsrRead, CsrWrite};
+use answer::Answer;
+use control::{Board, Control};
+use std::array;
+use std::io::{self, BufReader, BufWriter, Write};
 use view::ViewPlace;
+
+// The bytes of a line, with its newline.
+const LINE: usize = 130;
+
+// No more lines are read.
+const LINES: usize = 1_000_000;
 
 // ---- CSR numbers
 
@@ -18,175 +24,117 @@ fn control_of(line: &[u8]) -> Control {
     case_lines::control_at(line, 33)
 }
 
-// The control record on standard output.
-fn print_control(control: Control) {
-    let mut text = [0u8; 121];
-    let n = case_lines::control_text(&mut text, 0, control);
-    let k = io::count(n as isize, &text);
-    io::write_all(1, &text[..k]);
+fn print_written(output: &mut impl Write, answer: Answer, control: Control) -> io::Result<()> {
+    write!(output, "{} ", u64::from(answer))?;
+    case_lines::print_control(output, control)?;
+    writeln!(output)
 }
 
-fn print_written(written: CsrWrite) {
-    let answer = written.answer;
-    let control = written.control;
-    io::print_decimal(1, answer::number(answer));
-    io::write_all(1, b" ");
-    print_control(control);
-    io::write_all(1, b"\n");
-}
-
-fn print_read(found: CsrRead) {
-    let answer = found.answer;
-    io::print_decimal(1, answer::number(answer));
-    io::write_all(1, b" ");
-    io::print_hex(1, found.value, 1);
-    io::write_all(1, b"\n");
-}
-
-fn read(is_small: bool, line: &[u8]) {
-    let control = control_of(line);
+// The value of a read is 0 beside a refusal.
+fn read(output: &mut impl Write, board: Board, line: &[u8]) -> io::Result<()> {
     let csr = hexadecimal::number(line, 1, 16);
-    if is_small {
-        print_read(csr::small_read(control, csr));
-    } else {
-        print_read(csr::read(control, csr));
-    }
+    let (answer, value) = match csr::read(board, control_of(line), csr) {
+        Ok(value) => (Answer::Finished, value),
+        Err(refused) => (refused, 0),
+    };
+    writeln!(output, "{} {value:x}", u64::from(answer))
 }
 
-fn write(is_small: bool, line: &[u8]) {
+// The record of a write is as before beside a refusal.
+fn write(output: &mut impl Write, board: Board, line: &[u8]) -> io::Result<()> {
     let control = control_of(line);
     let csr = hexadecimal::number(line, 1, 16);
     let value = hexadecimal::number(line, 17, 16);
-    if is_small {
-        print_written(csr_field::small_written(control, csr, value));
-        print_written(csr::small_write(control, csr, value));
-    } else {
-        print_written(csr_field::written(control, csr, value));
-        print_written(csr::write(control, csr, value));
-    }
+    let mut lent = control;
+    let answer = match csr_field::write(board, &mut lent, csr, value) {
+        Ok(()) => Answer::Finished,
+        Err(refused) => refused,
+    };
+    print_written(output, answer, lent)?;
+    let (answer, after) = match csr::write(board, control, csr, value) {
+        Ok(after) => (Answer::Finished, after),
+        Err(refused) => (refused, control),
+    };
+    print_written(output, answer, after)
 }
 
 // ---- the register view
 
 // Of each 8 bytes, a register of the smaller board, the first is their number.
-fn fill(file: &mut [u8]) {
-    for k in 0..file.len() {
-        file[k] = ((k / 8 + k % 8 * 32) % 256) as u8;
-    }
-}
-
-fn wide(b: u8) -> u64
-    ensures { result < 256 }
-{
-    b as u64
+fn file_byte(k: usize) -> u8 {
+    ((k / 8 + k % 8 * 32) % 256) as u8
 }
 
 // Where a part begins, by its first byte; 0 of an empty one.
 fn start_of(part: &[u8]) -> u64 {
-    if part.len() == 0 {
-        return 0;
-    }
-    8 * wide(part[0])
+    part.first().map_or(0, |byte| 8 * u64::from(*byte))
 }
 
 fn checksum(part: &[u8]) -> u64 {
-    let mut sum = 0u64;
-    for k in 0..part.len() {
-        sum = sum % 65521 * 31 + wide(part[k]);
-    }
-    sum
+    part.iter()
+        .fold(0, |sum, byte| sum % 65521 * 31 + u64::from(*byte))
 }
 
-fn print_part(answer: u64, start: u64, size: u64, part: &[u8]) {
-    io::print_decimal(1, answer);
-    io::write_all(1, b" ");
-    io::print_decimal(1, start);
-    io::write_all(1, b" ");
-    io::print_decimal(1, size);
-    io::write_all(1, b" ");
-    io::print_decimal(1, checksum(part));
-    io::write_all(1, b"\n");
+fn view_with(
+    output: &mut impl Write,
+    board: Board,
+    file: &[u8],
+    first: usize,
+    count: usize,
+) -> io::Result<()> {
+    let mut answer = Answer::Finished;
+    let part = view::view_with(board, file, first, count, &mut answer);
+    let (answer, start, size) = (u64::from(answer), start_of(part), part.len());
+    writeln!(output, "{answer} {start} {size} {}", checksum(part))
 }
 
-fn view_with(is_small: bool, file: &[u8], first: usize, count: usize) {
-    let mut answer = 0u64;
-    let part = if is_small {
-        view::small_view_with(file, first, count, &mut answer)
-    } else {
-        view::view_with(file, first, count, &mut answer)
+fn view(
+    output: &mut impl Write,
+    board: Board,
+    file: &[u8],
+    first: usize,
+    count: usize,
+) -> io::Result<()> {
+    let (answer, start, size) = match view::place(board, file.len(), first, count) {
+        Ok(ViewPlace { start, size }) => (Answer::Finished, start, size),
+        Err(refused) => (refused, 0, 0),
     };
-    print_part(answer, start_of(part), part.len() as u64, part);
+    let part = view::view(board, file, first, count);
+    let answer = u64::from(answer);
+    writeln!(output, "{answer} {start} {size} {}", checksum(part))
 }
 
-fn place(is_small: bool, bytes: usize, first: usize, count: usize) -> ViewPlace {
-    if is_small {
-        return view::small_place(bytes, first, count);
-    }
-    view::place(bytes, first, count)
-}
-
-fn view(is_small: bool, file: &[u8], first: usize, count: usize) {
-    let place = place(is_small, file.len(), first, count);
-    let answer = place.answer;
-    let part = if is_small {
-        view::small_view(file, first, count)
-    } else {
-        view::view(file, first, count)
-    };
-    print_part(
-        answer::number(answer),
-        place.start as u64,
-        place.size as u64,
-        part,
-    );
-}
-
-// A length of a case, at most the room that there is.
-fn capped(n: u64, room: usize) -> usize
-    ensures { result ≤ room }
-{
-    if n as usize <= room { n as usize } else { room }
-}
-
-fn views(is_small: bool, line: &[u8], file: &[u8]) {
-    let n = capped(hexadecimal::number(line, 1, 16), file.len());
+// The views of a file of the length in a line, at most the room that there is.
+fn views(output: &mut impl Write, board: Board, line: &[u8], file: &[u8]) -> io::Result<()> {
+    let n = file.len().min(hexadecimal::number(line, 1, 16) as usize);
     let first = hexadecimal::number(line, 17, 16) as usize;
     let count = hexadecimal::number(line, 33, 16) as usize;
-    view_with(is_small, &file[..n], first, count);
-    view(is_small, &file[..n], first, count);
+    view_with(output, board, &file[..n], first, count)?;
+    view(output, board, &file[..n], first, count)
 }
 
 // ---- the whole
 
-// The next line; false where there is none.
-fn step(file: &[u8]) -> bool {
-    let mut line = [0u8; 130];
-    let n = io::read_full(0, &mut line);
-    if n < 130 {
-        return false;
-    }
-    match line[0] {
-        114 => read(false, &line),
-        119 => write(false, &line),
-        118 => views(false, &line, file),
-        82 => read(true, &line),
-        87 => write(true, &line),
-        86 => views(true, &line, file),
-        _ => return false,
-    }
-    true
-}
-
-fn read_lines(file: &[u8]) {
-    for _ in 0..1000000usize {
-        if !step(file) {
+fn main(rt: HostRuntime) -> io::Result<()> {
+    let alloc = rt.alloc();
+    let mut input = BufReader::new(alloc, rt.reader())?;
+    let mut output = BufWriter::new(alloc, io::writer(&rt))?;
+    let file: [u8; 1024] = array::from_fn(file_byte);
+    for _ in 0..LINES {
+        let Some(line) = case_lines::next_bytes::<LINE, _>(&mut input) else {
             break;
+        };
+        match line[0] {
+            b'r' => read(&mut output, Board::BASE, &line)?,
+            b'w' => write(&mut output, Board::BASE, &line)?,
+            b'v' => views(&mut output, Board::BASE, &line, &file)?,
+            b'R' => read(&mut output, Board::SMALL, &line)?,
+            b'W' => write(&mut output, Board::SMALL, &line)?,
+            b'V' => views(&mut output, Board::SMALL, &line, &file)?,
+            _ => break,
         }
+        // what is said of this line stands in the output before the next is read
+        output.flush()?;
     }
-}
-
-fn main() {
-    let mut file = [0u8; 1024];
-    fill(&mut file);
-    read_lines(&file);
+    Ok(())
 }

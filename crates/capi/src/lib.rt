@@ -4,11 +4,11 @@
 #![tactic(auto)]
 
 ghost use Rattle.std.specs.Prelude.{◌≡◌, ◌≤◌, length};
-ghost use Rattle.answer.specs.Answer.{number_of};
+ghost use Rattle.answer.specs.Answer.{number_of, answer_of};
 ghost use Rattle.control.specs.Board.{base};
 ghost use Rattle.control.specs.Control.{reset, fields_of, record_of};
-ghost use Rattle.csr.specs.Csr.{read_of, written_of};
-ghost use Rattle.view.specs.View.{place_of};
+ghost use Rattle.csr.specs.Csr.{read_of, written_of, value_of, record_after};
+ghost use Rattle.view.specs.View.{place_of, start_of, size_of};
 ghost use Rattle.machine.specs.Machine.{turn_of};
 ghost use Rattle.machine.specs.Call.{given};
 ghost use Rattle.access_check.specs.AccessCheck.{access_check_of};
@@ -16,9 +16,16 @@ ghost use Rattle.sheet.specs.Run.{printed, buffered};
 ghost use Rattle.sheet.specs.Bounds.{sheet_bound};
 ghost use Rattle.crossing.specs.Crossing.{Shows, Tells};
 
-use control::Control;
+use control::{Board, Control};
 
 pub mod small;
+
+// The first board.
+fn board() -> Board
+    ensures { result ≡ base }
+{
+    Board::BASE
+}
 
 // One turn of a word: the answer's number, and in the lent parts what the turn leaves.
 #[unsafe(no_mangle)]
@@ -43,13 +50,14 @@ pub extern "C" fn prashunde_turn(
         scalars.new memory.new rights.now control.new }
 {
     let turned = turn::turn(
+        board(),
         word,
         allowance,
         registers,
         scalars,
         memory,
         rights,
-        Control::of_fields(*control),
+        Control::from(*control),
     );
     crossing::turned(turned, control, passed, address, page, right)
 }
@@ -80,12 +88,13 @@ pub extern "C" fn prashunde_access_check(
         × ((rights.exit.now ≡ rights.entry.now) × (control.exit.now ≡ control.entry.now)))) }
 {
     let checked = access_check::check(
+        board(),
         word,
         registers,
         scalars,
         memory,
         rights,
-        Control::of_fields(*control),
+        Control::from(*control),
     );
     crossing::checked(checked, element, pages, page, right)
 }
@@ -93,21 +102,23 @@ pub extern "C" fn prashunde_access_check(
 // A CSR of the record; 0 beside any other answer than 0. The record is as before: a read sets no VS.
 #[unsafe(no_mangle)]
 pub extern "C" fn prashunde_csr_read(csr: u64, control: &[u64; 6], value: &mut u64) -> u64
-    ensures value { result ≡ number_of (read_of base (record_of control.now) csr).answer }
-    ensures value_after { value.new ≡ (read_of base (record_of control.now) csr).value }
+    ensures answered { result ≡ number_of (answer_of (read_of base (record_of control.now) csr)) }
+    ensures value_after { value.new ≡ value_of (read_of base (record_of control.now) csr) }
     ensures control_value { control.exit.now ≡ control.entry.now }
 {
-    crossing::read(csr::read(Control::of_fields(*control), csr), value)
+    crossing::read(csr::read(board(), Control::from(*control), csr), value)
 }
 
 // The record after a write, through the write on a lent record; the same record beside any other answer than 0.
 #[unsafe(no_mangle)]
 pub extern "C" fn prashunde_csr_write(csr: u64, value: u64, control: &mut [u64; 6]) -> u64
-    ensures value { result ≡ number_of (written_of base (record_of control.old) csr value).answer }
-    ensures control_after { control.new ≡ fields_of (written_of base (record_of control.old) csr value).control }
+    ensures answered { result ≡ number_of (answer_of (written_of base (record_of control.old) csr value)) }
+    ensures control_after { control.new
+        ≡ fields_of (record_after (record_of control.old) (written_of base (record_of control.old) csr value)) }
 {
-    let written = csr_field::written(Control::of_fields(*control), csr, value);
-    crossing::written(written, control)
+    let mut record = Control::from(*control);
+    let outcome = csr_field::write(board(), &mut record, csr, value);
+    crossing::written(outcome, record, control)
 }
 
 // Where a group of registers lies in the file: registers[start .. start + size]. Both are 0 beside any other answer than 0.
@@ -119,11 +130,15 @@ pub extern "C" fn prashunde_view(
     start: &mut usize,
     size: &mut usize,
 ) -> u64
-    ensures value { result ≡ number_of (place_of base (length registers.now) first count).answer }
-    ensures start_after { start.new ≡ (place_of base (length registers.now) first count).start }
-    ensures size_after { size.new ≡ (place_of base (length registers.now) first count).size }
+    ensures answered { result ≡ number_of (answer_of (place_of base (length registers.now) first count)) }
+    ensures start_after { start.new ≡ start_of (place_of base (length registers.now) first count) }
+    ensures size_after { size.new ≡ size_of (place_of base (length registers.now) first count) }
 {
-    crossing::placed(view::place(registers.len(), first, count), start, size)
+    crossing::placed(
+        view::place(board(), registers.len(), first, count),
+        start,
+        size,
+    )
 }
 
 // The record after reset: vill, and VS Initial.
@@ -131,8 +146,7 @@ pub extern "C" fn prashunde_view(
 pub extern "C" fn prashunde_reset(control: &mut [u64; 6])
     ensures { control.new ≡ fields_of reset }
 {
-    let after = Control::reset();
-    *control = after.fields();
+    *control = Control::RESET.into();
 }
 
 // The length of what a sheet prints, and the text in a buffer that is as long; a shorter one is left as it was.

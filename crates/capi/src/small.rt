@@ -1,16 +1,23 @@
-// The calls of the smaller board: each is that of the first board without `small_` in its name.
+// The calls of the smaller board: each is that of the first board without `small_` in its name. They are twins since C has no board to
+// pass, and exported names stay.
 ghost use Rattle.std.specs.Prelude.{◌≡◌, length};
-ghost use Rattle.answer.specs.Answer.{number_of};
+ghost use Rattle.answer.specs.Answer.{number_of, answer_of};
 ghost use Rattle.control.specs.Board.{small};
 ghost use Rattle.control.specs.Control.{fields_of, record_of};
-ghost use Rattle.csr.specs.Csr.{read_of, written_of};
-ghost use Rattle.view.specs.View.{place_of};
+ghost use Rattle.csr.specs.Csr.{read_of, written_of, value_of, record_after};
+ghost use Rattle.view.specs.View.{place_of, start_of, size_of};
 ghost use Rattle.machine.specs.Machine.{turn_of};
 ghost use Rattle.machine.specs.Call.{given};
 ghost use Rattle.access_check.specs.AccessCheck.{access_check_of};
 ghost use Rattle.crossing.specs.Crossing.{Shows, Tells};
 
-use control::Control;
+use control::{Board, Control};
+
+fn board() -> Board
+    ensures { result ≡ small }
+{
+    Board::SMALL
+}
 
 #[unsafe(no_mangle)]
 pub extern "C" fn prashunde_small_turn(
@@ -33,14 +40,15 @@ pub extern "C" fn prashunde_small_turn(
         result passed.new address.new page.new right.new registers.new
         scalars.new memory.new rights.now control.new }
 {
-    let turned = turn::small_turn(
+    let turned = turn::turn(
+        board(),
         word,
         allowance,
         registers,
         scalars,
         memory,
         rights,
-        Control::of_fields(*control),
+        Control::from(*control),
     );
     crossing::turned(turned, control, passed, address, page, right)
 }
@@ -68,33 +76,36 @@ pub extern "C" fn prashunde_small_access_check(
         × ((memory.exit.now ≡ memory.entry.now)
         × ((rights.exit.now ≡ rights.entry.now) × (control.exit.now ≡ control.entry.now)))) }
 {
-    let checked = access_check::small_check(
+    let checked = access_check::check(
+        board(),
         word,
         registers,
         scalars,
         memory,
         rights,
-        Control::of_fields(*control),
+        Control::from(*control),
     );
     crossing::checked(checked, element, pages, page, right)
 }
 
 #[unsafe(no_mangle)]
 pub extern "C" fn prashunde_small_csr_read(csr: u64, control: &[u64; 6], value: &mut u64) -> u64
-    ensures value { result ≡ number_of (read_of small (record_of control.now) csr).answer }
-    ensures value_after { value.new ≡ (read_of small (record_of control.now) csr).value }
+    ensures answered { result ≡ number_of (answer_of (read_of small (record_of control.now) csr)) }
+    ensures value_after { value.new ≡ value_of (read_of small (record_of control.now) csr) }
     ensures control_value { control.exit.now ≡ control.entry.now }
 {
-    crossing::read(csr::small_read(Control::of_fields(*control), csr), value)
+    crossing::read(csr::read(board(), Control::from(*control), csr), value)
 }
 
 #[unsafe(no_mangle)]
 pub extern "C" fn prashunde_small_csr_write(csr: u64, value: u64, control: &mut [u64; 6]) -> u64
-    ensures value { result ≡ number_of (written_of small (record_of control.old) csr value).answer }
-    ensures control_after { control.new ≡ fields_of (written_of small (record_of control.old) csr value).control }
+    ensures answered { result ≡ number_of (answer_of (written_of small (record_of control.old) csr value)) }
+    ensures control_after { control.new
+        ≡ fields_of (record_after (record_of control.old) (written_of small (record_of control.old) csr value)) }
 {
-    let written = csr_field::small_written(Control::of_fields(*control), csr, value);
-    crossing::written(written, control)
+    let mut record = Control::from(*control);
+    let outcome = csr_field::write(board(), &mut record, csr, value);
+    crossing::written(outcome, record, control)
 }
 
 #[unsafe(no_mangle)]
@@ -105,12 +116,12 @@ pub extern "C" fn prashunde_small_view(
     start: &mut usize,
     size: &mut usize,
 ) -> u64
-    ensures value { result ≡ number_of (place_of small (length registers.now) first count).answer }
-    ensures start_after { start.new ≡ (place_of small (length registers.now) first count).start }
-    ensures size_after { size.new ≡ (place_of small (length registers.now) first count).size }
+    ensures answered { result ≡ number_of (answer_of (place_of small (length registers.now) first count)) }
+    ensures start_after { start.new ≡ start_of (place_of small (length registers.now) first count) }
+    ensures size_after { size.new ≡ size_of (place_of small (length registers.now) first count) }
 {
     crossing::placed(
-        view::small_place(registers.len(), first, count),
+        view::place(board(), registers.len(), first, count),
         start,
         size,
     )

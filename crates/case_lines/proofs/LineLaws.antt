@@ -1,5 +1,5 @@
 -- Numbers with a space before each: lengths, and one number after another.
-use mathlib.Core.Path.{◌≡◌}
+use mathlib.Core.Path.{◌≡◌, ◌∙◌}
 use mathlib.Core.List.{List, [], ◌∷◌, ◌++◌}
 use Prim.Native.Nat.{ℕ, ◌+◌, ◌*◌, ◌^◌, ◌≤◌, ◌<◌}
 use native.Mathlib.Omega.{arith}
@@ -8,7 +8,8 @@ use lib.ListN.{length, get_or, take, drop, length-append, length-take, length-dr
 use lib.Seq.{drop-cons}
 use Rattle.control.specs.declared.Control.{Control}
 use Rattle.control.specs.Control.{fields_of}
-use Rattle.text.specs.Text.{short_hex, decimal, Wrote}
+use Rattle.text.specs.Text.{short_hex, decimal, Adds}
+use Rattle.text.specs.declared.Text.{Text}
 use Rattle.text.proofs.TextLaws.{over-++, both, Left, none_left, short-length, decimal-length}
 use Rattle.case_lines.specs.Lines.{spaced, control_text}
 
@@ -18,38 +19,38 @@ spaced-upto : (xs : List ℕ) → length (spaced xs) ≤ 21 * length xs
 spaced-upto [] = omega arith
 spaced-upto (x ∷ xs) = rw (length-append (decimal x) (spaced xs)) (omega (arith, decimal-length x, spaced-upto xs))
 
-text-less : {o s t u o1 o2 : List ℕ} {a a1 a2 : ℕ} → Left o a s o1 a1 (t ++ u) → Wrote o1 a1 t o2 a2 → Left o a s o2 a2 u
-text-less {t = t} {u} {o1} {a1 = a1} l w =
+text-less : {t t1 t2 : Text} {s u v : List ℕ} → Left t s t1 (u ++ v) → Adds t1 u t2 → Left t s t2 v
+text-less {t1 = t1} {u = u} {v} l w =
     record {
-      bytes = rw (w.bytes, w.ends, ← over-++ o1 a1 t u) l.bytes;
-      ends = omega (arith, length-append t u, l.ends, w.ends);
+      bytes = rw (w.wrote.bytes, w.wrote.ends, ← over-++ t1.out.now t1.at u v) l.bytes;
+      ends = omega (arith, length-append u v, l.ends, w.wrote.ends);
+      same_buffer = w.same_buffer ∙ l.same_buffer;
     }
 
-pub number-less : {o s o1 o2 o3 : List ℕ} {a a1 a2 a3 : ℕ} (xs : List ℕ) (i : ℕ) → i < length xs → Left o a s o1 a1 (spaced (drop i xs))
-    → Wrote o1 a1 (32 ∷ []) o2 a2 → Wrote o2 a2 (decimal (get_or xs i 0)) o3 a3 → Left o a s o3 a3 (spaced (drop (i + 1) xs))
+pub number-less : {t t1 t2 t3 : Text} {s : List ℕ} (xs : List ℕ) (i : ℕ) → i < length xs → Left t s t1 (spaced (drop i xs))
+    → Adds t1 (32 ∷ []) t2 → Adds t2 (decimal (get_or xs i 0)) t3 → Left t s t3 (spaced (drop (i + 1) xs))
 number-less xs i h l v w = rw (add-one i) (text-less (rw (drop-cons xs i 0) at l) (both v w))
 
-pub numbers-done : {o s o1 : List ℕ} {a a1 : ℕ} (xs : List ℕ) (i : ℕ) → length xs ≤ i → Left o a s o1 a1 (spaced (drop i xs))
-    → Wrote o a s o1 a1
+pub numbers-done : {t t1 : Text} {s : List ℕ} (xs : List ℕ) (i : ℕ) → length xs ≤ i → Left t s t1 (spaced (drop i xs)) → Adds t s t1
 numbers-done xs i h l = none_left (rw (drop_of_length-le xs h) at l)
 
-pub space-room : {o o1 : List ℕ} {a a1 : ℕ} (xs u : List ℕ) → a + 21 * length xs ≤ 2 ^ 30 → Left o a (spaced xs) o1 a1 u → a1 + 1 ≤ 2 ^ 32
+pub space-room : {t t1 : Text} (xs u : List ℕ) → t.at + 21 * length xs ≤ 2 ^ 30 → Left t (spaced xs) t1 u → t1.at + 1 ≤ 2 ^ 32
 space-room xs u h l = omega (arith, spaced-upto xs, l.ends)
 
-pub number-room : {o o1 o2 : List ℕ} {a a1 a2 : ℕ} (xs u : List ℕ) → a + 21 * length xs ≤ 2 ^ 30 → Left o a (spaced xs) o1 a1 u
-    → Wrote o1 a1 (32 ∷ []) o2 a2 → a2 ≤ 2 ^ 31
-number-room xs u h l w = omega (arith, spaced-upto xs, l.ends, w.ends)
+pub number-room : {t t1 t2 : Text} (xs u : List ℕ) → t.at + 21 * length xs ≤ 2 ^ 30 → Left t (spaced xs) t1 u → Adds t1 (32 ∷ []) t2
+    → t2.at ≤ 2 ^ 31
+number-room xs u h l w = omega (arith, spaced-upto xs, l.ends, w.wrote.ends)
 
 -- ---- the control record
 
-module _ (c : Control) (l : List ℕ) (e : l ≡ fields_of c) {o o1 : List ℕ} {a a1 : ℕ} where
-  pub fields-room : (x i n : ℕ) → a ≤ 2 ^ 29 → Wrote o a (short_hex x) o1 a1 → a1 + 21 * length (take n (drop i l)) ≤ 2 ^ 30
-  fields-room x i n h w = rw (length-take n (drop i l), length-drop i l, e) (omega (arith, short-length x, w.ends))
+module _ (c : Control) (l : List ℕ) (e : l ≡ fields_of c) {t t1 : Text} where
+  pub fields-room : (x i n : ℕ) → t.at ≤ 2 ^ 29 → Adds t (short_hex x) t1 → t1.at + 21 * length (take n (drop i l)) ≤ 2 ^ 30
+  fields-room x i n h w = rw (length-take n (drop i l), length-drop i l, e) (omega (arith, short-length x, w.wrote.ends))
 
-  pub control-wrote : {o2 : List ℕ} {a2 : ℕ} → Wrote o a (short_hex (get_or l 0 0)) o1 a1 → Wrote o1 a1 (spaced (take 5 (drop 1 l))) o2 a2
-      → Wrote o a (control_text c) o2 a2
+  pub control-wrote : {t2 : Text} → Adds t (short_hex (get_or l 0 0)) t1 → Adds t1 (spaced (take 5 (drop 1 l))) t2
+      → Adds t (control_text c) t2
   control-wrote v w = both (rw e at v) (rw e at w)
 
-  pub control-within : {o2 : List ℕ} {a2 : ℕ} → Wrote o a (short_hex (get_or l 0 0)) o1 a1 → Wrote o1 a1 (spaced (take 5 (drop 1 l))) o2 a2
-      → a2 ≤ a + 121
-  control-within v w = omega (arith, short-length (get_or l 0 0), v.ends, spaced-upto (drop 1 (fields_of c)), (rw e at w).ends)
+  pub control-within : {t2 : Text} → Adds t (short_hex (get_or l 0 0)) t1 → Adds t1 (spaced (take 5 (drop 1 l))) t2 → t2.at ≤ t.at + 121
+  control-within v w =
+      omega (arith, short-length (get_or l 0 0), v.wrote.ends, spaced-upto (drop 1 (fields_of c)), (rw e at w).wrote.ends)

@@ -9,10 +9,12 @@
 
 #![tactic(auto)]
 
-ghost use Rattle.std.specs.Prelude.{◌<◌};
-
-use control::Control;
+use access::FaultPlace;
+use answer::Answer;
+use case_lines::next_bytes;
+use control::{Board, Control};
 use machine::Turned;
+use std::io::{self, BufReader, BufWriter, Read, Write};
 
 const REGISTERS: usize = 512;
 
@@ -22,404 +24,258 @@ const MEMORY: usize = 65536;
 
 const PAGES: usize = 256;
 
-// What the turns of a machine have come to: the last answer, the number passed in all of them, where a fault lies, the control record.
-#[derive(Clone, Copy)]
-struct Told {
-    answer: u64,
-    passed: u64,
-    address: u64,
-    page: u64,
-    right: u64,
-    control: Control,
-}
+// An allowance that no instruction uses up.
+const UNCUT: u32 = 0xffff_ffff;
 
-// A case as far as it has come; `more` is false at the end of the input.
-#[derive(Clone, Copy)]
-struct Case {
-    more: bool,
-    is_small: bool,
-    word: u32,
-    cut: Told,
-    whole: Told,
-}
+// No more lines are read.
+const LINES: usize = 1_000_000;
 
 // ---- lines
 
-fn set_byte(bytes: &mut [u8], at: usize, byte: u8) {
-    if at < bytes.len() {
-        bytes[at] = byte;
+// A line, by its letter: what follows it, with the newline.
+#[derive(Clone, Copy)]
+enum Line {
+    Case(Board, [u8; 105]),
+    Registers([u8; 40]),
+    Memory([u8; 40]),
+    Scalar([u8; 19]),
+    Rights([u8; 6]),
+    UncutRights([u8; 6]),
+    Turn([u8; 9]),
+    UncutTurn,
+    End,
+}
+
+// The next line; none at the end of the input, in a line or before one, and where a letter is none of these.
+fn next_line(input: &mut impl Read) -> Option<Line> {
+    let [letter]: [u8; 1] = next_bytes(input)?;
+    let line = match letter {
+        b'c' => Line::Case(Board::BASE, next_bytes(input)?),
+        b's' => Line::Case(Board::SMALL, next_bytes(input)?),
+        b'v' => Line::Registers(next_bytes(input)?),
+        b'm' => Line::Memory(next_bytes(input)?),
+        b'x' => Line::Scalar(next_bytes(input)?),
+        b'p' => Line::Rights(next_bytes(input)?),
+        b'q' => Line::UncutRights(next_bytes(input)?),
+        b't' => Line::Turn(next_bytes(input)?),
+        b'u' => Line::UncutTurn,
+        b'.' => Line::End,
+        _ => return None,
+    };
+    if matches!(line, Line::UncutTurn | Line::End) {
+        // the last line may lack its newline
+        let _ = next_bytes::<1, _>(input);
     }
+    Some(line)
 }
 
 fn set_bytes(bytes: &mut [u8], line: &[u8]) {
     let first = hexadecimal::number(line, 0, 5) as usize;
-    let n = hexadecimal::number(line, 5, 2) as u32;
-    for k in 0..n {
-        let byte = hexadecimal::number(line, 7 + 2 * k, 2) as u8;
-        set_byte(bytes, first + k as usize, byte);
+    let n = hexadecimal::number(line, 5, 2) as u8;
+    for (k, byte) in (0..n).zip(bytes.iter_mut().skip(first)) {
+        *byte = hexadecimal::number(line, 7 + 2 * u32::from(k), 2) as u8;
     }
 }
 
-fn set_scalar(scalars: &mut [u64], line: &[u8]) {
-    let at = hexadecimal::number(line, 0, 2) as usize;
-    if at < scalars.len() {
-        scalars[at] = hexadecimal::number(line, 2, 16);
+// ---- a machine
+
+// What the turns of a machine have come to: the last answer, the number passed in all of them, where a fault lies, the control record.
+#[derive(Clone, Copy, PartialEq)]
+struct Told {
+    answer: Answer,
+    passed: u64,
+    place: FaultPlace,
+    control: Control,
+}
+
+impl Told {
+    // Of no turn yet.
+    fn new(control: Control) -> Told {
+        Told {
+            answer: Answer::Finished,
+            passed: 0,
+            place: FaultPlace::nowhere(),
+            control,
+        }
+    }
+
+    // With one turn more.
+    fn with(self, turned: Turned) -> Told {
+        Told {
+            answer: turned.answer,
+            passed: self.passed.wrapping_add(turned.passed),
+            place: turned.place,
+            control: turned.control,
+        }
     }
 }
 
-fn set_rights(rights: &mut [u8], line: &[u8]) {
-    let first = hexadecimal::number(line, 0, 2) as usize;
-    let last = hexadecimal::number(line, 2, 2) as usize;
-    let right = hexadecimal::number(line, 4, 1) as u8;
-    for k in first..last + 1 {
-        set_byte(rights, k, right);
+// A machine, and what its turns have come to.
+#[derive(Clone, Copy, PartialEq)]
+struct Machine {
+    registers: [u8; REGISTERS],
+    scalars: [u64; SCALARS],
+    memory: [u8; MEMORY],
+    rights: [u8; PAGES],
+    told: Told,
+}
+
+impl Machine {
+    // Registers, scalars and memory 0, and every page closed.
+    fn new(control: Control) -> Machine {
+        Machine {
+            registers: [0; REGISTERS],
+            scalars: [0; SCALARS],
+            memory: [0; MEMORY],
+            rights: [0; PAGES],
+            told: Told::new(control),
+        }
+    }
+
+    fn set_rights(&mut self, line: &[u8]) {
+        let first = hexadecimal::number(line, 0, 2) as usize;
+        let last = hexadecimal::number(line, 2, 2) as usize;
+        let right = hexadecimal::number(line, 4, 1) as u8;
+        for page in self.rights.iter_mut().take(last + 1).skip(first) {
+            *page = right;
+        }
+    }
+
+    // A turn on a board.
+    fn turn(&mut self, board: Board, word: u32, allowance: u32) {
+        let turned = turned(
+            board,
+            word,
+            allowance,
+            &mut self.registers,
+            &mut self.scalars,
+            &mut self.memory,
+            &self.rights,
+            self.told.control,
+        );
+        self.told = self.told.with(turned);
+    }
+
+    // Of the registers, the scalars, the control record and memory.
+    fn checksum(&self) -> u64 {
+        let sum = sum_of(0, &self.registers);
+        let sum = sum_of(sum, &self.scalars);
+        let sum = sum_of(sum, &<[u64; 6]>::from(self.told.control));
+        sum_of(sum, &self.memory)
     }
 }
 
-// The same bytes in both machines.
-fn read_bytes(cut: &mut [u8], whole: &mut [u8]) {
-    let mut line = [0u8; 40];
-    let n = io::read_full(0, &mut line);
-    set_bytes(cut, &line[..n]);
-    set_bytes(whole, &line[..n]);
+// A turn on a board; the smaller one has the first half of the file.
+fn turned(
+    board: Board,
+    word: u32,
+    allowance: u32,
+    registers: &mut [u8; REGISTERS],
+    scalars: &mut [u64],
+    memory: &mut [u8],
+    rights: &[u8],
+    control: Control,
+) -> Turned {
+    let bytes = 32 * board.vlenb as usize;
+    turn::turn(
+        board,
+        word,
+        allowance,
+        &mut registers[..bytes],
+        scalars,
+        memory,
+        rights,
+        control,
+    )
 }
 
-fn read_scalar(cut: &mut [u64], whole: &mut [u64]) {
-    let mut line = [0u8; 19];
-    let n = io::read_full(0, &mut line);
-    set_scalar(cut, &line[..n]);
-    set_scalar(whole, &line[..n]);
-}
-
-fn read_rights(rights: &mut [u8]) {
-    let mut line = [0u8; 6];
-    let n = io::read_full(0, &mut line);
-    set_rights(rights, &line[..n]);
-}
-
-fn read_allowance() -> u32 {
-    let mut line = [0u8; 9];
-    let n = io::read_full(0, &mut line);
-    hexadecimal::number(&line[..n], 0, 8) as u32
-}
-
-// The newline.
-fn read_end() {
-    let mut line = [0u8; 1];
-    io::read_full(0, &mut line);
-}
-
-// The first byte of a line, and 0 at the end of the input.
-fn read_kind() -> u8 {
-    let mut kind = [0u8; 1];
-    let n = io::read_full(0, &mut kind);
-    if n < 1 {
-        return 0;
-    }
-    kind[0]
+// A checksum with some numbers more.
+fn sum_of<T: Copy + Into<u64>>(sum: u64, numbers: &[T]) -> u64 {
+    numbers.iter().fold(sum, |sum, number| {
+        (sum % 65521 * 31 + (*number).into() % 65521) % 65521
+    })
 }
 
 // ---- a case
 
-fn untold(control: Control) -> Told {
-    Told {
-        answer: 0,
-        passed: 0,
-        address: 0,
-        page: 256,
-        right: 0,
-        control: control,
-    }
+// A case as far as its lines have come: its board and word, the machine that takes the turns, and the one that takes the uncut turn.
+#[derive(Drop)]
+struct Case {
+    board: Board,
+    word: u32,
+    cut: Machine,
+    whole: Machine,
 }
 
-fn clear_bytes(bytes: &mut [u8]) {
-    for k in 0..bytes.len() {
-        bytes[k] = 0;
-    }
-}
-
-fn clear_scalars(scalars: &mut [u64]) {
-    for k in 0..scalars.len() {
-        scalars[k] = 0;
-    }
-}
-
-fn read_case(is_small: bool) -> Case {
-    let mut line = [0u8; 105];
-    let n = io::read_full(0, &mut line);
-    let word = hexadecimal::number(&line[..n], 0, 8) as u32;
-    let control = case_lines::control_at(&line[..n], 8);
-    let told = untold(control);
-    Case {
-        more: true,
-        is_small: is_small,
-        word: word,
-        cut: told,
-        whole: told,
-    }
-}
-
-// What the turns come to with one more.
-fn with_turn(told: Told, turned: Turned) -> Told {
-    let answer = turned.answer;
-    let place = turned.place;
-    let wanted = place.wanted;
-    let control = turned.control;
-    Told {
-        answer: answer::number(answer),
-        passed: std::num::wrapping_add_u64(told.passed, turned.passed),
-        address: place.address,
-        page: wanted.page,
-        right: wanted.right as u64,
-        control: control,
-    }
-}
-
-// A turn on the board of the case; the smaller one has the first half of the file.
-fn take(
-    case: Case,
-    allowance: u32,
-    told: Told,
-    registers: &mut [u8],
-    scalars: &mut [u64],
-    memory: &mut [u8],
-    rights: &[u8],
-) -> Told {
-    let control = told.control;
-    let half = registers.len() / 2;
-    if case.is_small {
-        let turned = turn::small_turn(
-            case.word,
-            allowance,
-            &mut registers[..half],
-            scalars,
-            memory,
-            rights,
-            control,
-        );
-        return with_turn(told, turned);
-    }
-    with_turn(
-        told,
-        turn::turn(
-            case.word, allowance, registers, scalars, memory, rights, control,
-        ),
-    )
-}
-
-// ---- the end of a case
-
-fn wide(b: u8) -> u64
-    ensures { result < 256 }
-{
-    b as u64
-}
-
-fn sum_of_bytes(sum: u64, bytes: &[u8]) -> u64 {
-    let mut s = sum % 65521;
-    for k in 0..bytes.len() {
-        s = (s * 31 + wide(bytes[k])) % 65521;
-    }
-    s
-}
-
-fn sum_of_numbers(sum: u64, numbers: &[u64]) -> u64 {
-    let mut s = sum % 65521;
-    for k in 0..numbers.len() {
-        s = (s * 31 + numbers[k] % 65521) % 65521;
-    }
-    s
-}
-
-fn same_bytes(a: &[u8], b: &[u8]) -> bool {
-    if b.len() < a.len() {
-        return false;
-    }
-    for k in 0..a.len() {
-        if a[k] != b[k] {
-            return false;
+impl Case {
+    fn new(board: Board, word: u32, control: Control) -> Case {
+        Case {
+            board,
+            word,
+            cut: Machine::new(control),
+            whole: Machine::new(control),
         }
     }
-    true
-}
 
-fn same_numbers(a: &[u64], b: &[u64]) -> bool {
-    if b.len() < a.len() {
-        return false;
-    }
-    for k in 0..a.len() {
-        if a[k] != b[k] {
-            return false;
+    // What a line asks for.
+    fn follow(&mut self, line: Line, output: &mut impl Write) -> io::Result<()> {
+        match line {
+            Line::Case(board, line) => {
+                let word = hexadecimal::number(&line, 0, 8) as u32;
+                *self = Case::new(board, word, case_lines::control_at(&line, 8));
+            }
+            Line::Registers(line) => {
+                set_bytes(&mut self.cut.registers, &line);
+                set_bytes(&mut self.whole.registers, &line);
+            }
+            Line::Memory(line) => {
+                set_bytes(&mut self.cut.memory, &line);
+                set_bytes(&mut self.whole.memory, &line);
+            }
+            Line::Scalar(line) => {
+                case_lines::set_scalar(&mut self.cut.scalars, &line);
+                case_lines::set_scalar(&mut self.whole.scalars, &line);
+            }
+            Line::Rights(line) => self.cut.set_rights(&line),
+            Line::UncutRights(line) => self.whole.set_rights(&line),
+            Line::Turn(line) => {
+                let allowance = hexadecimal::number(&line, 0, 8) as u32;
+                self.cut.turn(self.board, self.word, allowance);
+            }
+            Line::UncutTurn => self.whole.turn(self.board, self.word, UNCUT),
+            Line::End => return self.print(output),
         }
+        Ok(())
     }
-    true
-}
 
-fn same_told(a: Told, b: Told) -> bool {
-    let left = a.control;
-    let right = b.control;
-    let p = left.fields();
-    let q = right.fields();
-    same_numbers(&p, &q)
-        & (a.answer == b.answer)
-        & (a.passed == b.passed)
-        & (a.address == b.address)
-        & (a.page == b.page)
-        & (a.right == b.right)
-}
-
-fn print_told(told: Told, sum: u64, is_same: bool) {
-    io::print_decimal(1, told.answer);
-    io::write_all(1, b" ");
-    io::print_decimal(1, told.passed);
-    io::write_all(1, b" ");
-    io::print_decimal(1, sum);
-    if is_same {
-        io::write_all(1, b" same\n");
-    } else {
-        io::write_all(1, b" differs\n");
+    // What is left of both, in one line.
+    fn print(&self, output: &mut impl Write) -> io::Result<()> {
+        let Told { answer, passed, .. } = self.cut.told;
+        let answer = u64::from(answer);
+        let sum = self.cut.checksum();
+        let outcome = if self.cut == self.whole {
+            "same"
+        } else {
+            "differs"
+        };
+        writeln!(output, "{answer} {passed} {sum} {outcome}")
     }
 }
 
 // ---- the whole
 
-// The registers, scalars and memory of both machines at 0, and every page closed.
-fn clear(
-    registers: &mut [u8; REGISTERS],
-    scalars: &mut [u64; SCALARS],
-    memory: &mut [u8; MEMORY],
-    rights: &mut [u8; PAGES],
-) {
-    clear_bytes(registers);
-    clear_scalars(scalars);
-    clear_bytes(memory);
-    clear_bytes(rights);
-}
-
-// What is left of both, in one line.
-fn finish(
-    case: Case,
-    registers: &[u8; REGISTERS],
-    scalars: &[u64; SCALARS],
-    memory: &[u8; MEMORY],
-    rights: &[u8; PAGES],
-    whole_registers: &[u8; REGISTERS],
-    whole_scalars: &[u64; SCALARS],
-    whole_memory: &[u8; MEMORY],
-    last_rights: &[u8; PAGES],
-) {
-    let cut = case.cut;
-    let whole = case.whole;
-    let control = cut.control;
-    let fields = control.fields();
-    let sum = sum_of_bytes(
-        sum_of_numbers(sum_of_numbers(sum_of_bytes(0, registers), scalars), &fields),
-        memory,
-    );
-    let is_same = same_told(cut, whole)
-        & same_bytes(registers, whole_registers)
-        & same_numbers(scalars, whole_scalars)
-        & same_bytes(memory, whole_memory)
-        & same_bytes(rights, last_rights);
-    print_told(cut, sum, is_same);
-}
-
-// The next line.
-fn step(
-    case: Case,
-    registers: &mut [u8; REGISTERS],
-    scalars: &mut [u64; SCALARS],
-    memory: &mut [u8; MEMORY],
-    rights: &mut [u8; PAGES],
-    whole_registers: &mut [u8; REGISTERS],
-    whole_scalars: &mut [u64; SCALARS],
-    whole_memory: &mut [u8; MEMORY],
-    last_rights: &mut [u8; PAGES],
-) -> Case {
-    let kind = read_kind();
-    let mut next = case;
-    match kind {
-        99 | 115 => {
-            clear(registers, scalars, memory, rights);
-            clear(whole_registers, whole_scalars, whole_memory, last_rights);
-            next = read_case(kind == 115);
-        }
-        118 => read_bytes(registers, whole_registers),
-        109 => read_bytes(memory, whole_memory),
-        120 => read_scalar(scalars, whole_scalars),
-        112 => read_rights(rights),
-        113 => read_rights(last_rights),
-        116 => next.cut = take(
-            case,
-            read_allowance(),
-            case.cut,
-            registers,
-            scalars,
-            memory,
-            rights,
-        ),
-        117 => {
-            read_end();
-            next.whole = take(
-                case,
-                0xffff_ffff,
-                case.whole,
-                whole_registers,
-                whole_scalars,
-                whole_memory,
-                last_rights,
-            );
-        }
-        46 => {
-            read_end();
-            finish(
-                case,
-                registers,
-                scalars,
-                memory,
-                rights,
-                whole_registers,
-                whole_scalars,
-                whole_memory,
-                last_rights,
-            );
-        }
-        _ => next.more = false,
-    }
-    next
-}
-
-fn main() {
-    let mut registers = [0u8; REGISTERS];
-    let mut scalars = [0u64; SCALARS];
-    let mut memory = [0u8; MEMORY];
-    let mut rights = [0u8; PAGES];
-    let mut whole_registers = [0u8; REGISTERS];
-    let mut whole_scalars = [0u64; SCALARS];
-    let mut whole_memory = [0u8; MEMORY];
-    let mut last_rights = [0u8; PAGES];
-    let told = untold(Control::RESET);
-    let mut case = Case {
-        more: true,
-        is_small: false,
-        word: 0,
-        cut: told,
-        whole: told,
-    };
-    for _ in 0..1000000usize {
-        case = step(
-            case,
-            &mut registers,
-            &mut scalars,
-            &mut memory,
-            &mut rights,
-            &mut whole_registers,
-            &mut whole_scalars,
-            &mut whole_memory,
-            &mut last_rights,
-        );
-        if !case.more {
+fn main(rt: HostRuntime) -> io::Result<()> {
+    let alloc = rt.alloc();
+    let mut input = BufReader::new(alloc, rt.reader())?;
+    let mut output = BufWriter::new(alloc, io::writer(&rt))?;
+    let mut case = Case::new(Board::BASE, 0, Control::RESET);
+    for _ in 0..LINES {
+        let Some(line) = next_line(&mut input) else {
             break;
-        }
+        };
+        case.follow(line, &mut output)?;
+        // what is said of this line stands in the output before the next is read
+        output.flush()?;
     }
+    Ok(())
 }

@@ -1,17 +1,18 @@
 -- A board: VLENB, the bytes of a vector register, and ELEN, the bits of the largest element (section 3 of document 000).
-use Rattle.std.specs.Prelude.{ℕ, ◌*◌, ◌^◌, ◌≤◌, ◌≡◌}
+use Rattle.std.specs.Prelude.{ℕ, ◌*◌, ◌^◌, ◌≤◌, ◌≡◌, refl}
+use Rattle.std.proofs.Common.{lit≤}
 use Rattle.control.specs.declared.Board.{Board}
 
 -- VLEN 128, ELEN 64 (document 01, 'The machine on the screen')
 abbrev pub base : Board
-base = record { vlenb = 16; elen = 64 }
+base = record { vlenb = 16; elen = 64; some = lit≤ tt; most = lit≤ tt; divides = refl; elen_most = lit≤ tt; within = lit≤ tt }
 
 -- "boards with Zve32x and VLEN 64" (document 02, A11): ELEN 32
 abbrev pub small : Board
-small = record { vlenb = 8; elen = 32 }
+small = record { vlenb = 8; elen = 32; some = lit≤ tt; most = lit≤ tt; divides = refl; elen_most = lit≤ tt; within = lit≤ tt }
 
--- for contracts of inner functions, and for laws over every board: the boards that the code is for, `base` and `small` among them. VLENB is
--- a power of 2 and at most 16, ELEN at most 64 and at most VLEN
+-- what laws over a board rest on, and every board keeps to (`valid`, proofs/Laws): VLENB is a power of 2 and at most 16, ELEN at most 64 and at
+-- most VLEN
 pub record Valid (b : Board) : Type 0 where
   pub lenb : ℕ
   pub power : b.vlenb ≡ 2 ^ lenb

@@ -1,9 +1,7 @@
 -- The control record: reset, the record after a setting instruction (document 01, 'Setting the vector type'), and which records can be.
-use Rattle.std.specs.Prelude.{ℕ, ◌*◌, min, Bool, not, ◌&&◌, cond, List, [], ◌∷◌, get_or, ltb, leb, eqb}
+use Rattle.std.specs.Prelude.{ℕ, ◌*◌, min, Bool, not, ◌&&◌, cond, List, [], ◌∷◌, Option, Some, None, get_or, ltb, leb, eqb}
 use Rattle.control.specs.declared.Board.{Board}
 use Rattle.control.specs.declared.Control.{Control}
-use Rattle.control.specs.declared.Avl.{Avl}
-use Rattle.control.specs.declared.Avl.TheVariants.{To, Keep}
 use Rattle.control.specs.Vtype.{vill, vlmax_of, supported_of}
 
 -- ---- the status field VS of mstatus (section 4.2; document 02, A8: "0 Off, 1 Initial, 2 Clean, 3 Dirty")
@@ -68,10 +66,10 @@ vill_of c = set_to c vill 0
 abbrev pub keeps_of : Board → Control → ℕ → Bool
 keeps_of b c v = not (eqb c.vtype vill) && eqb (vlmax_of b c.vtype) (vlmax_of b v)
 
--- the record after a setting instruction with the new vtype v (section 7); vl becomes the smaller of AVL and VLMAX
-unfoldable pub set_of : Board → Control → ℕ → Avl → Control
-set_of b c v (To avl) = cond (supported_of b v) (set_to c v (min avl (vlmax_of b v))) (vill_of c)
-set_of b c v Keep = cond (supported_of b v && keeps_of b c v) (set_to c v c.vl) (vill_of c)
+-- the record after a setting instruction with the new vtype v (section 7); vl becomes the smaller of AVL and VLMAX, or with no AVL is kept
+unfoldable pub set_of : Board → Control → ℕ → Option ℕ → Control
+set_of b c v (Some avl) = cond (supported_of b v) (set_to c v (min avl (vlmax_of b v))) (vill_of c)
+set_of b c v None = cond (supported_of b v && keeps_of b c v) (set_to c v c.vl) (vill_of c)
 
 -- vtype is 2^63 with vl 0, or supported with vl at most VLMAX
 unfoldable pub typed_well_of : Board → Control → Bool

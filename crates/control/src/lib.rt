@@ -2,18 +2,20 @@
 
 #![tactic(auto)]
 
-ghost use Rattle.std.specs.Prelude.{◌≡◌, cond, ◌-◌, min};
-ghost use Rattle.control.specs.Board.{Valid, base, small};
-ghost use Rattle.control.specs.Vtype.{lmul8_of, sew_of, vlmax_of, supported_of};
-ghost use Rattle.control.specs.Control.{reset, with_vtype, with_vstart, with_vxrm, with_vxsat, with_vs, dirtied, is_off};
-ghost use Rattle.control.specs.Control.{fields_of, record_of, vill_of, set_to, keeps_of, set_of, typed_well_of, possible_of};
+ghost use Rattle.std.specs.Prelude.{◌≡◌, ◌≤◌, ◌%◌, ◌*◌, cond};
 
-// VLENB (the bytes of a vector register) and ELEN (the bits of the largest element). The two fit 8 bytes, so that a board is stored and
-// loaded in one piece: stored in two and loaded in one it would delay each call.
-#[derive(Clone, Copy)]
+// VLENB (the bytes of a vector register) and ELEN (the bits of the largest element). VLENB is a power of 2 and at most 16, ELEN at most 64
+// and at most VLEN. The two fit 8 bytes, so that a board is stored and loaded in one piece: stored in two and loaded in one it would delay
+// each call.
+#[derive(Clone, Copy, PartialEq, Eq)]
 pub struct Board {
     pub vlenb: u32,
     pub elen: u32,
+    pub ghost some: { 1 ≤ vlenb },
+    pub ghost most: { vlenb ≤ 16 },
+    pub ghost divides: { 16 % vlenb ≡ 0 },
+    pub ghost elen_most: { elen ≤ 64 },
+    pub ghost within: { elen ≤ 8 * vlenb },
 }
 
 impl Board {
@@ -25,24 +27,12 @@ impl Board {
 
     // VLEN 64, ELEN 32.
     pub const SMALL: Board = Board { vlenb: 8, elen: 32 };
-
-    // The same, for callers whose contracts name them.
-    pub fn base() -> Board
-        ensures { (result ≡ base) × Valid result }
-    {
-        Board::BASE
-    }
-
-    pub fn small() -> Board
-        ensures { (result ≡ small) × Valid result }
-    {
-        Board::SMALL
-    }
 }
 
 // The control record (document 01, 'The machine on the screen'), with the status field VS of mstatus (document 02, A8): 0 Off, 1 Initial,
-// 2 Clean, 3 Dirty.
-#[derive(Clone, Copy)]
+// 2 Clean, 3 Dirty. Each field is a number and no enum: a record handed in may hold any, and 36 refuses those that can't be
+// (`possible_of`).
+#[derive(Clone, Copy, PartialEq, Eq)]
 pub struct Control {
     pub vtype: u64,
     pub vl: u64,
@@ -52,31 +42,14 @@ pub struct Control {
     pub vs: u64,
 }
 
-// What a setting instruction asks of vl: an application vector length, or to keep vl.
-#[derive(Clone, Copy)]
-pub enum Avl {
-    To(u64),
-    Keep,
-}
-
-// vill alone.
-const VILL: u64 = 0x8000_0000_0000_0000;
-
-// The smaller of two numbers.
-pub fn smaller(a: u64, b: u64) -> u64
-    ensures { result ≡ min a b }
-{
-    if a < b { a } else { b }
-}
-
-// a less b, and 0 where b is the larger.
-pub fn less(a: u64, b: u64) -> u64
-    ensures { result ≡ a - b }
-{
-    if a < b { 0 } else { a - b }
-}
-
 impl Control {
+    ghost use Rattle.control.specs.Vtype.{lmul8_of, sew_of, vlmax_of, supported_of};
+    ghost use Rattle.control.specs.Control.{with_vtype, with_vstart, with_vxrm, with_vxsat, with_vs, dirtied, is_off};
+    ghost use Rattle.control.specs.Control.{vill_of, set_to, keeps_of, set_of, typed_well_of, possible_of};
+
+    // vill alone.
+    pub const VILL: u64 = 0x8000_0000_0000_0000;
+
     // vill, and VS Initial.
     pub const RESET: Control = Control {
         vtype: 0x8000_0000_0000_0000,
@@ -87,59 +60,41 @@ impl Control {
         vs: 1,
     };
 
-    // The same, for callers whose contracts name it.
-    pub fn reset() -> Control
-        ensures { result ≡ reset }
-    {
-        Control::RESET
-    }
-
     // ---- the record with one thing changed
 
     // Another vtype and vl, which go together.
     pub fn with_vtype(self, vtype: u64, vl: u64) -> Control
         ensures { result ≡ with_vtype self vtype vl }
     {
-        let mut next = self;
-        next.vtype = vtype;
-        next.vl = vl;
-        next
+        Control { vtype, vl, ..self }
     }
 
     // Another vstart.
     pub fn with_vstart(self, vstart: u64) -> Control
         ensures { result ≡ with_vstart self vstart }
     {
-        let mut next = self;
-        next.vstart = vstart;
-        next
+        Control { vstart, ..self }
     }
 
     // Another vxrm.
     pub fn with_vxrm(self, vxrm: u64) -> Control
         ensures { result ≡ with_vxrm self vxrm }
     {
-        let mut next = self;
-        next.vxrm = vxrm;
-        next
+        Control { vxrm, ..self }
     }
 
     // Another vxsat.
     pub fn with_vxsat(self, vxsat: u64) -> Control
         ensures { result ≡ with_vxsat self vxsat }
     {
-        let mut next = self;
-        next.vxsat = vxsat;
-        next
+        Control { vxsat, ..self }
     }
 
     // Another VS.
     pub fn with_vs(self, vs: u64) -> Control
         ensures { result ≡ with_vs self vs }
     {
-        let mut next = self;
-        next.vs = vs;
-        next
+        Control { vs, ..self }
     }
 
     // VS Dirty.
@@ -154,36 +109,6 @@ impl Control {
         ensures { result ≡ is_off self }
     {
         self.vs == 0
-    }
-
-    // ---- the record as numbers
-
-    // vtype, vl, vstart, vxrm, vxsat, vs.
-    pub fn fields(self) -> [u64; 6]
-        ensures { result ≡ fields_of self }
-    {
-        [
-            self.vtype,
-            self.vl,
-            self.vstart,
-            self.vxrm,
-            self.vxsat,
-            self.vs,
-        ]
-    }
-
-    // The record of six numbers in this order.
-    pub fn of_fields(fields: [u64; 6]) -> Control
-        ensures { result ≡ record_of fields }
-    {
-        Control {
-            vtype: fields[0],
-            vl: fields[1],
-            vstart: fields[2],
-            vxrm: fields[3],
-            vxsat: fields[4],
-            vs: fields[5],
-        }
     }
 
     // ---- vtype
@@ -208,7 +133,6 @@ impl Control {
 
     // VLMAX = LMUL * VLEN / SEW.
     pub fn vlmax(board: Board, vtype: u64) -> u64
-        requires { Valid board }
         ensures { result ≡ vlmax_of board vtype }
     {
         Control::lmul8(vtype) * (board.vlenb as u64) / Control::sew(vtype)
@@ -216,7 +140,6 @@ impl Control {
 
     // Whether vtype is supported. `&` and `|` take both sides, as the definitions do: there is no branch.
     pub fn supported(board: Board, vtype: u64) -> bool
-        requires { Valid board }
         ensures { result ≡ supported_of board vtype }
     {
         let elen = board.elen as u64;
@@ -242,36 +165,34 @@ impl Control {
         if allowed {
             self.set_to(vtype, vl)
         } else {
-            self.set_to(VILL, 0)
+            self.set_to(Control::VILL, 0)
         }
     }
 
     // Whether vl may be kept at a new vtype.
     fn keeps(self, board: Board, vtype: u64) -> bool
-        requires { Valid board }
         ensures { result ≡ keeps_of board self vtype }
     {
-        (self.vtype != VILL) & (Control::vlmax(board, self.vtype) == Control::vlmax(board, vtype))
+        (self.vtype != Control::VILL)
+            & (Control::vlmax(board, self.vtype) == Control::vlmax(board, vtype))
     }
 
-    // The record after a setting instruction.
-    pub fn set(self, board: Board, vtype: u64, avl: Avl) -> Control
-        requires { Valid board }
+    // The record after a setting instruction, which asks for an application vector length, or with none to keep vl.
+    pub fn set(self, board: Board, vtype: u64, avl: Option<u64>) -> Control
         ensures { result ≡ set_of board self vtype avl }
     {
         let supported = Control::supported(board, vtype);
         match avl {
-            Avl::To(n) => self.set_if(supported, vtype, smaller(n, Control::vlmax(board, vtype))),
-            Avl::Keep => self.set_if(supported & self.keeps(board, vtype), vtype, self.vl),
+            Some(n) => self.set_if(supported, vtype, n.min(Control::vlmax(board, vtype))),
+            None => self.set_if(supported & self.keeps(board, vtype), vtype, self.vl),
         }
     }
 
     // Whether vtype and vl can stand together.
     fn typed_well(self, board: Board) -> bool
-        requires { Valid board }
         ensures { result ≡ typed_well_of board self }
     {
-        if self.vtype == VILL {
+        if self.vtype == Control::VILL {
             return self.vl == 0;
         }
         Control::supported(board, self.vtype) & (self.vl <= Control::vlmax(board, self.vtype))
@@ -279,7 +200,6 @@ impl Control {
 
     // Whether the fields can be: answer 36 where not.
     pub fn possible(self, board: Board) -> bool
-        requires { Valid board }
         ensures { result ≡ possible_of board self }
     {
         self.typed_well(board)
@@ -287,5 +207,35 @@ impl Control {
             & (self.vxrm <= 3)
             & (self.vxsat <= 1)
             & (self.vs <= 3)
+    }
+}
+
+// ---- the record as numbers: vtype, vl, vstart, vxrm, vxsat, vs
+
+impl From<Control> for [u64; 6] {
+    ghost use Rattle.control.specs.Control.{fields_of};
+
+    ghost from_gives = { λ c fields. fields ≡ fields_of c };
+
+    fn from(c: Control) -> [u64; 6] {
+        [c.vtype, c.vl, c.vstart, c.vxrm, c.vxsat, c.vs]
+    }
+}
+
+impl From<[u64; 6]> for Control {
+    ghost use Rattle.control.specs.Control.{record_of};
+
+    ghost from_gives = { λ fields c. c ≡ record_of fields };
+
+    fn from(fields: [u64; 6]) -> Control {
+        let [vtype, vl, vstart, vxrm, vxsat, vs] = fields;
+        Control {
+            vtype,
+            vl,
+            vstart,
+            vxrm,
+            vxsat,
+            vs,
+        }
     }
 }

@@ -4,12 +4,15 @@
 #![tactic(auto)]
 
 ghost use Rattle.std.specs.Prelude.{◌≡◌, List, ℕ};
-ghost use Rattle.answer.specs.Answer.{number_of};
+ghost use Rattle.answer.specs.Answer.{number_of, answer_of};
 ghost use Rattle.control.specs.Control.{fields_of};
+ghost use Rattle.csr.specs.Csr.{value_of};
+ghost use Rattle.view.specs.View.{start_of, size_of};
 ghost use Rattle.machine.specs.Call.{left};
 ghost use Rattle.crossing.specs.Crossing.{Shows, Tells};
 
-use csr::{CsrRead, CsrWrite};
+use answer::Answer;
+use control::Control;
 use machine::Turned;
 use unit_stride::Checked;
 use view::ViewPlace;
@@ -26,16 +29,13 @@ pub fn turned(
     ensures { (registers scalars memory rights : List ℕ) → Shows (left turned registers scalars memory rights) result passed.new
         address.new page.new right.new registers scalars memory rights control.new }
 {
-    let answer = turned.answer;
     let place = turned.place;
-    let wanted = place.wanted;
-    let after = turned.control;
-    *control = after.fields();
+    *control = turned.control.into();
     *passed = turned.passed;
     *address = place.address;
-    *page = wanted.page;
-    *right = wanted.right as u64;
-    answer::number(answer)
+    *page = place.wanted.page;
+    *right = u64::from(place.wanted.right);
+    u64::from(turned.answer)
 }
 
 // An access check.
@@ -48,44 +48,58 @@ pub fn checked(
 ) -> u64
     ensures { Tells checked result element.new pages.new page.new right.new }
 {
-    let answer = checked.answer;
-    let wanted = checked.wanted;
     *element = checked.element;
     *pages = checked.pages;
-    *page = wanted.page;
-    *right = wanted.right as u64;
-    answer::number(answer)
+    *page = checked.wanted.page;
+    *right = u64::from(checked.wanted.right);
+    u64::from(checked.answer)
 }
 
-// A read by CSR number.
-pub fn read(read: CsrRead, value: &mut u64) -> u64
-    ensures value { result ≡ number_of read.answer }
-    ensures value_after { value.new ≡ read.value }
+// A read by CSR number: the value is 0 beside a refusal.
+pub fn read(read: Result<u64, Answer>, value: &mut u64) -> u64
+    ensures answered { result ≡ number_of (answer_of read) }
+    ensures value_after { value.new ≡ value_of read }
 {
-    let answer = read.answer;
-    *value = read.value;
-    answer::number(answer)
+    match read {
+        Ok(found) => {
+            *value = found;
+            u64::from(Answer::Finished)
+        }
+        Err(refused) => {
+            *value = 0;
+            u64::from(refused)
+        }
+    }
 }
 
-// A write by CSR number.
-pub fn written(written: CsrWrite, control: &mut [u64; 6]) -> u64
-    ensures value { result ≡ number_of written.answer }
-    ensures control_after { control.new ≡ fields_of written.control }
+// A write by CSR number, and the record after it.
+pub fn written(outcome: Result<(), Answer>, after: Control, control: &mut [u64; 6]) -> u64
+    ensures answered { result ≡ number_of (answer_of outcome) }
+    ensures control_after { control.new ≡ fields_of after }
 {
-    let answer = written.answer;
-    let after = written.control;
-    *control = after.fields();
-    answer::number(answer)
+    *control = after.into();
+    match outcome {
+        Ok(()) => u64::from(Answer::Finished),
+        Err(refused) => u64::from(refused),
+    }
 }
 
-// The place of a group of registers.
-pub fn placed(place: ViewPlace, start: &mut usize, size: &mut usize) -> u64
-    ensures value { result ≡ number_of place.answer }
-    ensures start_after { start.new ≡ place.start }
-    ensures size_after { size.new ≡ place.size }
+// The place of a group of registers: both numbers are 0 beside a refusal.
+pub fn placed(place: Result<ViewPlace, Answer>, start: &mut usize, size: &mut usize) -> u64
+    ensures answered { result ≡ number_of (answer_of place) }
+    ensures start_after { start.new ≡ start_of place }
+    ensures size_after { size.new ≡ size_of place }
 {
-    let answer = place.answer;
-    *start = place.start;
-    *size = place.size;
-    answer::number(answer)
+    match place {
+        Ok(place) => {
+            *start = place.start;
+            *size = place.size;
+            u64::from(Answer::Finished)
+        }
+        Err(refused) => {
+            *start = 0;
+            *size = 0;
+            u64::from(refused)
+        }
+    }
 }

@@ -3,131 +3,52 @@
 #![tactic(auto)]
 
 ghost use Rattle.std.specs.Prelude.{◌≡◌};
-ghost use Rattle.control.specs.Board.{Valid, base, small};
-ghost use Rattle.csr.specs.Csr.{read_of, written_of};
+ghost use Rattle.csr.specs.Csr.{when_accessible, read_of, written_of};
 
 use answer::Answer;
 use control::{Board, Control};
 
-// What a read comes to: the value is 0 beside any other answer than 0.
-#[derive(Clone, Copy)]
-pub struct CsrRead {
-    pub answer: Answer,
-    pub value: u64,
+// Whether a CSR of the record may be read or written at all: it can be, and VS is not Off.
+fn accessible(board: Board, control: Control) -> Result<(), Answer>
+    ensures { result ≡ when_accessible board control (Ok tt) }
+{
+    if !control.possible(board) {
+        return Err(Answer::BadControl);
+    }
+    if control.is_off() {
+        return Err(Answer::Illegal);
+    }
+    Ok(())
 }
 
-// What a write comes to, and the record after it: the same record beside any other answer than 0.
-#[derive(Clone, Copy)]
-pub struct CsrWrite {
-    pub answer: Answer,
-    pub control: Control,
-}
-
-// A read on a board.
-fn read_on(board: Board, control: Control, csr: u64) -> CsrRead
-    requires { Valid board }
+// The value of a CSR, or the answer that refuses the read.
+pub fn read(board: Board, control: Control, csr: u64) -> Result<u64, Answer>
     ensures { result ≡ read_of board control csr }
 {
-    if !control.possible(board) {
-        return CsrRead {
-            answer: Answer::BadControl,
-            value: 0,
-        };
-    }
-    if control.is_off() {
-        return CsrRead {
-            answer: Answer::Illegal,
-            value: 0,
-        };
-    }
-    let value = match csr {
-        0x008 => control.vstart,
-        0x009 => control.vxsat,
-        0x00A => control.vxrm,
-        0x00F => 2 * control.vxrm + control.vxsat,
-        0xC20 => control.vl,
-        0xC21 => control.vtype,
-        0xC22 => board.vlenb as u64,
-        _ => {
-            return CsrRead {
-                answer: Answer::Illegal,
-                value: 0,
-            };
-        }
-    };
-    CsrRead {
-        answer: Answer::Finished,
-        value,
+    accessible(board, control)?;
+    match csr {
+        0x008 => Ok(control.vstart),
+        0x009 => Ok(control.vxsat),
+        0x00A => Ok(control.vxrm),
+        0x00F => Ok(2 * control.vxrm + control.vxsat),
+        0xC20 => Ok(control.vl),
+        0xC21 => Ok(control.vtype),
+        0xC22 => Ok(u64::from(board.vlenb)),
+        _ => Err(Answer::Illegal),
     }
 }
 
-// A write on a board.
-pub fn write_on(board: Board, control: Control, csr: u64, value: u64) -> CsrWrite
-    requires { Valid board }
+// The record after a write, or the answer that refuses it.
+pub fn write(board: Board, control: Control, csr: u64, value: u64) -> Result<Control, Answer>
     ensures { result ≡ written_of board control csr value }
 {
-    if !control.possible(board) {
-        return CsrWrite {
-            answer: Answer::BadControl,
-            control,
-        };
-    }
-    if control.is_off() {
-        return CsrWrite {
-            answer: Answer::Illegal,
-            control,
-        };
-    }
-    let mut next = control.dirtied();
+    accessible(board, control)?;
+    let next = control.dirtied();
     match csr {
-        0x008 => {
-            next.vstart = value % (8 * (board.vlenb as u64));
-        }
-        0x009 => {
-            next.vxsat = value % 2;
-        }
-        0x00A => {
-            next.vxrm = value % 4;
-        }
-        0x00F => {
-            next.vxrm = value / 2 % 4;
-            next.vxsat = value % 2;
-        }
-        _ => {
-            return CsrWrite {
-                answer: Answer::Illegal,
-                control,
-            };
-        }
+        0x008 => Ok(next.with_vstart(value % (8 * u64::from(board.vlenb)))),
+        0x009 => Ok(next.with_vxsat(value % 2)),
+        0x00A => Ok(next.with_vxrm(value % 4)),
+        0x00F => Ok(next.with_vxrm(value / 2 % 4).with_vxsat(value % 2)),
+        _ => Err(Answer::Illegal),
     }
-    CsrWrite {
-        answer: Answer::Finished,
-        control: next,
-    }
-}
-
-// ---- the calls of each board
-
-pub fn read(control: Control, csr: u64) -> CsrRead
-    ensures { result ≡ read_of base control csr }
-{
-    read_on(Board::base(), control, csr)
-}
-
-pub fn small_read(control: Control, csr: u64) -> CsrRead
-    ensures { result ≡ read_of small control csr }
-{
-    read_on(Board::small(), control, csr)
-}
-
-pub fn write(control: Control, csr: u64, value: u64) -> CsrWrite
-    ensures { result ≡ written_of base control csr value }
-{
-    write_on(Board::base(), control, csr, value)
-}
-
-pub fn small_write(control: Control, csr: u64, value: u64) -> CsrWrite
-    ensures { result ≡ written_of small control csr value }
-{
-    write_on(Board::small(), control, csr, value)
 }

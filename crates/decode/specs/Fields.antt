@@ -1,6 +1,6 @@
 -- For contracts of inner functions, not to be believed: what the fields of a decoded word are within, registers and immediates below 32,
 -- EEW 8 to 64, 1, 2, 4 or 8 whole registers.
-use Rattle.std.specs.Prelude.{◌<◌, ◌^◌, [], ◌∷◌, ◌≡◌}
+use Rattle.std.specs.Prelude.{ℕ, ◌<◌, ◌^◌, [], ◌∷◌, ◌≡◌, cond, eqb, Option, Some, None}
 use types.Run.{OneOf}
 use Rattle.operation.specs.declared.Size.{Size}
 use Rattle.operation.specs.declared.Size.TheVariants.{Single}
@@ -23,6 +23,7 @@ use Rattle.decode.specs.declared.Setting.{Setting}
 use Rattle.decode.specs.declared.Access.{Access}
 use Rattle.decode.specs.declared.Instruction.{Instruction}
 use Rattle.decode.specs.declared.Instruction.TheVariants as I
+use Rattle.decode.specs.Word.{funct3, width_of}
 
 abbrev pub SourceFits : Source → Type 0
 SourceFits (Vector r) = r < 32
@@ -102,3 +103,12 @@ Fits (I.Pack p) = PackFits p
 Fits (I.ScalarMove m) = ScalarMoveFits m
 Fits (I.Setting s) = SettingFits s
 Fits (I.Memory a) = AccessFits a
+
+-- what an access that is there, or not, names
+abbrev pub accessing : Option Access → Instruction
+accessing None = I.Illegal
+accessing (Some a) = I.Memory a
+
+-- an instruction of a word whose width field is that of an integer
+abbrev pub sized : ℕ → Instruction → Instruction
+sized w i = cond (eqb (width_of (funct3 w)) 0) I.Illegal i

@@ -3,9 +3,10 @@
 
 #![tactic(auto)]
 
-ghost use Rattle.std.specs.Prelude.{◌≡◌, ◌<◌};
+ghost use Rattle.std.specs.Prelude.{◌≡◌, cond, eqb, Some, None};
 ghost use Rattle.decode.specs.declared.Entry.TheVariants.{MergeOrMove};
 ghost use Rattle.decode.specs.declared.Instruction.TheVariants as Ins;
+ghost use Rattle.decode.specs.Fields.{accessing, sized};
 ghost use Rattle.decode.specs.Listing.{vxunary0, vwxunary0, vmunary0, find, entry_of};
 ghost use Rattle.decode.specs.Word.{opcode, rd, funct3, rs1, rs2, vm, funct6, mop, mew, nf, masked};
 ghost use Rattle.decode.specs.Word.{vm_fits, source_of, resolved_of, operation_of, named_of, arithmetic_of};
@@ -177,6 +178,7 @@ pub struct Access {
     pub nf: u32,
 }
 
+// What a word names. A word that names nothing is one kind among nine, as `decode_of` has it, and no Option around the others.
 #[derive(Clone, Copy)]
 pub enum Instruction {
     Illegal,
@@ -288,6 +290,7 @@ fn masked(word: u32) -> bool
 // ---- the listing: a column for each funct3
 
 // OPIVX: the whole of the OPI columns.
+#[tactic(auto, unfolding(crate::specs::Listing::listing, crate::specs::Listing::find, crate::specs::Listing::entry_of))]
 fn opivx(funct6: u32) -> Entry
     ensures { result ≡ entry_of 0b100 funct6 }
 {
@@ -336,6 +339,7 @@ fn opivx(funct6: u32) -> Entry
     }
 }
 
+#[tactic(auto, unfolding(crate::specs::Listing::listing, crate::specs::Listing::find, crate::specs::Listing::entry_of))]
 fn opmvv(funct6: u32) -> Entry
     ensures { result ≡ entry_of 0b010 funct6 }
 {
@@ -395,52 +399,51 @@ fn opmvv(funct6: u32) -> Entry
 }
 
 // OPIVV and OPIVI are OPIVX less some rows; OPIVV has three of its own.
+#[tactic(auto, unfolding(crate::specs::Listing::listing, crate::specs::Listing::find, crate::specs::Listing::entry_of))]
 fn opivv(funct6: u32) -> Entry
     ensures { result ≡ entry_of 0b000 funct6 }
 {
     match funct6 {
-        0b000011 => Entry::Reserved,
+        0b000011 | 0b001111 | 0b011110..=0b011111 => Entry::Reserved,
         0b001110 => Entry::Permutes(PermutationOp::Vrgatherei16),
-        0b001111 => Entry::Reserved,
-        0b011110..=0b011111 => Entry::Reserved,
         0b110000 => Entry::Reduces(ReductionOp::Vwredsumu),
         0b110001 => Entry::Reduces(ReductionOp::Vwredsum),
         _ => opivx(funct6),
     }
 }
 
+#[tactic(auto, unfolding(crate::specs::Listing::listing, crate::specs::Listing::find, crate::specs::Listing::entry_of))]
 fn opivi(funct6: u32) -> Entry
     ensures { result ≡ entry_of 0b011 funct6 }
 {
     match funct6 {
-        0b000010 => Entry::Reserved,
-        0b000100..=0b000111 => Entry::Reserved,
-        0b010010..=0b010011 => Entry::Reserved,
-        0b011010..=0b011011 => Entry::Reserved,
-        0b100010..=0b100011 => Entry::Reserved,
-        0b100111 => Entry::Reserved,
+        0b000010
+        | 0b000100..=0b000111
+        | 0b010010..=0b010011
+        | 0b011010..=0b011011
+        | 0b100010..=0b100011
+        | 0b100111 => Entry::Reserved,
         _ => opivx(funct6),
     }
 }
 
 // OPMVX is OPMVV less the rows that have no scalar, and with four of its own.
+#[tactic(auto, unfolding(crate::specs::Listing::listing, crate::specs::Listing::find, crate::specs::Listing::entry_of))]
 fn opmvx(funct6: u32) -> Entry
     ensures { result ≡ entry_of 0b110 funct6 }
 {
     match funct6 {
-        0b000000..=0b000111 => Entry::Reserved,
+        0b000000..=0b000111 | 0b010010 | 0b010100 | 0b010111..=0b011111 => Entry::Reserved,
         0b001110 => Entry::Permutes(PermutationOp::Vslide1up),
         0b001111 => Entry::Permutes(PermutationOp::Vslide1down),
         0b010000 => Entry::MovesScalar(ScalarMoveOp::VmvSX),
-        0b010010 => Entry::Reserved,
-        0b010100 => Entry::Reserved,
-        0b010111..=0b011111 => Entry::Reserved,
         0b111110 => Entry::Operation(Op::Vwmaccus),
         _ => opmvv(funct6),
     }
 }
 
 // What funct3 and funct6 name (section 11.1).
+#[tactic(auto, unfolding(crate::specs::Listing::listing, crate::specs::Listing::find, crate::specs::Listing::entry_of))]
 fn entry_of(funct3: u32, funct6: u32) -> Entry
     ensures { result ≡ entry_of funct3 funct6 }
 {
@@ -456,6 +459,7 @@ fn entry_of(funct3: u32, funct6: u32) -> Entry
 }
 
 // The tables below the listing, by the vs1 field: VXUNARY0, VWXUNARY0, VMUNARY0.
+#[tactic(auto, unfolding(crate::specs::Listing::vxunary0, crate::specs::Listing::find))]
 fn extension(vs1: u32) -> Entry
     ensures { result ≡ find vxunary0 vs1 }
 {
@@ -470,6 +474,7 @@ fn extension(vs1: u32) -> Entry
     }
 }
 
+#[tactic(auto, unfolding(crate::specs::Listing::vwxunary0, crate::specs::Listing::find))]
 fn to_scalar(vs1: u32) -> Entry
     ensures { result ≡ find vwxunary0 vs1 }
 {
@@ -481,6 +486,7 @@ fn to_scalar(vs1: u32) -> Entry
     }
 }
 
+#[tactic(auto, unfolding(crate::specs::Listing::vmunary0, crate::specs::Listing::find))]
 fn on_mask(vs1: u32) -> Entry
     ensures { result ≡ find vmunary0 vs1 }
 {
@@ -497,6 +503,7 @@ fn on_mask(vs1: u32) -> Entry
 // ---- arithmetic
 
 // vmerge has vm 0; vmv has vm 1 and vs2 0 (section 12.16).
+#[tactic(auto, unfolding(crate::specs::Word::resolved_of))]
 fn merge_or_move(word: u32) -> Entry
     ensures { result ≡ resolved_of MergeOrMove word }
 {
@@ -510,6 +517,7 @@ fn merge_or_move(word: u32) -> Entry
 }
 
 // The entries that further fields decide.
+#[tactic(auto, unfolding(crate::specs::Word::resolved_of))]
 fn resolved(entry: Entry, word: u32) -> Entry
     ensures { result ≡ resolved_of entry word }
 {
@@ -518,26 +526,26 @@ fn resolved(entry: Entry, word: u32) -> Entry
         Entry::Vxunary0 => extension(rs1(word)),
         Entry::Vwxunary0 => to_scalar(rs1(word)),
         Entry::Vmunary0 => on_mask(rs1(word)),
-        Entry::Reserved => entry,
-        Entry::Operation(_) => entry,
-        Entry::OnMask(_) => entry,
-        Entry::Reduces(_) => entry,
-        Entry::Permutes(_) => entry,
-        Entry::Packs(_) => entry,
-        Entry::MovesScalar(_) => entry,
-        Entry::Setting => entry,
+        Entry::Reserved
+        | Entry::Operation(_)
+        | Entry::OnMask(_)
+        | Entry::Reduces(_)
+        | Entry::Permutes(_)
+        | Entry::Packs(_)
+        | Entry::MovesScalar(_)
+        | Entry::Setting => entry,
     }
 }
 
 // What the vs1 field is, by funct3.
+#[tactic(auto, unfolding(crate::specs::Word::source_of))]
 fn source_of(word: u32) -> Source
     ensures { result ≡ source_of word }
 {
     let field = rs1(word);
     match funct3(word) {
         0b011 => Source::Immediate(field as u64),
-        0b100 => Source::Scalar(field as usize),
-        0b110 => Source::Scalar(field as usize),
+        0b100 | 0b110 => Source::Scalar(field as usize),
         _ => Source::Vector(field as usize),
     }
 }
@@ -547,8 +555,7 @@ fn vm_fits(v0: V0, vm: u32) -> bool
     ensures { result ≡ vm_fits v0 vm }
 {
     match v0 {
-        V0::Masks => true,
-        V0::MaybeOperand => true,
+        V0::Masks | V0::MaybeOperand => true,
         V0::Operand => vm == 0,
         V0::Unused => vm == 1,
     }
@@ -558,15 +565,12 @@ fn operation_of(op: Op, word: u32) -> Instruction
     ensures { result ≡ operation_of op word }
 {
     let vm = vm(word);
-    let shape = operation::shape_of(op);
-    let v0 = shape.v0;
-    if vm_fits(v0, vm) {
-        let source = source_of(word);
+    if vm_fits(operation::shape_of(op).v0, vm) {
         return Instruction::Arithmetic(Arithmetic {
             op,
             vd: rd(word) as usize,
             vs2: rs2(word) as usize,
-            source,
+            source: source_of(word),
             masked: vm == 0,
         });
     }
@@ -581,12 +585,12 @@ fn vs2_fits(op: PermutationOp, vs2: u32) -> bool
 {
     match op {
         PermutationOp::Vid => vs2 == 0,
-        PermutationOp::Vslideup => true,
-        PermutationOp::Vslidedown => true,
-        PermutationOp::Vslide1up => true,
-        PermutationOp::Vslide1down => true,
-        PermutationOp::Vrgather => true,
-        PermutationOp::Vrgatherei16 => true,
+        PermutationOp::Vslideup
+        | PermutationOp::Vslidedown
+        | PermutationOp::Vslide1up
+        | PermutationOp::Vslide1down
+        | PermutationOp::Vrgather
+        | PermutationOp::Vrgatherei16 => true,
     }
 }
 
@@ -595,12 +599,11 @@ fn permutation_of(op: PermutationOp, word: u32) -> Instruction
 {
     let vs2 = rs2(word);
     if vs2_fits(op, vs2) {
-        let source = source_of(word);
         return Instruction::Permutation(PermutationInstruction {
             op,
             vd: rd(word) as usize,
             vs2: vs2 as usize,
-            source,
+            source: source_of(word),
             masked: masked(word),
         });
     }
@@ -634,7 +637,6 @@ fn pack_of(op: PackOp, word: u32) -> Instruction
 }
 
 fn move_by(op: ScalarMoveOp, vector: u32, scalar: u32) -> Instruction
-    requires { (vector < 32) × (scalar < 32) }
     ensures { result ≡ Ins.ScalarMove (record { op = op; vector = vector; scalar = scalar }) }
 {
     Instruction::ScalarMove(ScalarMoveInstruction {
@@ -666,6 +668,7 @@ fn scalar_move_of(op: ScalarMoveOp, word: u32) -> Instruction
 // ---- setting instructions
 
 // Section 7.2.
+#[tactic(auto, unfolding(crate::specs::Word::avl_of))]
 fn avl_of(word: u32) -> AvlSource
     ensures { result ≡ avl_of word }
 {
@@ -690,6 +693,7 @@ fn setting_by(word: u32, avl: AvlSource, vtype: TypeSource) -> Instruction
 }
 
 // vsetvli has bit 31 clear, vsetivli bits 31 and 30 set, vsetvl bits 31 to 25 1000000.
+#[tactic(auto, unfolding(crate::specs::Word::setting_of))]
 fn setting_of(word: u32) -> Instruction
     ensures { result ≡ setting_of word }
 {
@@ -741,14 +745,15 @@ fn named(entry: Entry, word: u32) -> Instruction
         Entry::Packs(op) => pack_of(op, word),
         Entry::MovesScalar(op) => scalar_move_of(op, word),
         Entry::Setting => setting_of(word),
-        Entry::Reserved => Instruction::Illegal,
-        Entry::MergeOrMove => Instruction::Illegal,
-        Entry::Vxunary0 => Instruction::Illegal,
-        Entry::Vwxunary0 => Instruction::Illegal,
-        Entry::Vmunary0 => Instruction::Illegal,
+        Entry::Reserved
+        | Entry::MergeOrMove
+        | Entry::Vxunary0
+        | Entry::Vwxunary0
+        | Entry::Vmunary0 => Instruction::Illegal,
     }
 }
 
+#[tactic(auto, unfolding(crate::specs::Word::arithmetic_of))]
 fn arithmetic_of(word: u32) -> Instruction
     ensures { result ≡ arithmetic_of word }
 {
@@ -758,26 +763,27 @@ fn arithmetic_of(word: u32) -> Instruction
 
 // ---- loads and stores
 
-// EEW by the width field (section 8.3); 0 for the widths of scalar floating point.
-fn width_of(word: u32) -> u64
-    ensures { result ≡ width_of (funct3 word) }
+// EEW by the width field (section 8.3); none for the widths of scalar floating point.
+#[tactic(auto, unfolding(crate::specs::Word::width_of))]
+fn width_of(word: u32) -> Option<u64>
+    ensures { result ≡ cond (eqb (width_of (funct3 word)) 0) None (Some (width_of (funct3 word))) }
 {
     match funct3(word) {
-        0b000 => 8,
-        0b101 => 16,
-        0b110 => 32,
-        0b111 => 64,
-        _ => 0,
+        0b000 => Some(8),
+        0b101 => Some(16),
+        0b110 => Some(32),
+        0b111 => Some(64),
+        _ => None,
     }
 }
 
-fn access_of(store: bool, mode: Mode, further: u32, word: u32) -> Instruction
-    ensures { result ≡ access store mode further word }
+fn access_of(store: bool, mode: Mode, further: u32, word: u32) -> Option<Access>
+    ensures { accessing result ≡ sized word (access store mode further word) }
 {
-    Instruction::Memory(Access {
+    Some(Access {
         store,
         mode,
-        eew: width_of(word),
+        eew: width_of(word)?,
         vd: rd(word) as usize,
         rs1: rs1(word) as usize,
         masked: masked(word),
@@ -786,20 +792,21 @@ fn access_of(store: bool, mode: Mode, further: u32, word: u32) -> Instruction
 }
 
 // Elements, or segments of nf + 1 fields (section 8.8).
-fn segment_of(store: bool, mode: Mode, word: u32) -> Instruction
-    ensures { result ≡ segment_of store mode word }
+fn segment_of(store: bool, mode: Mode, word: u32) -> Option<Access>
+    ensures { accessing result ≡ sized word (segment_of store mode word) }
 {
     access_of(store, mode, nf(word), word)
 }
 
 // vlm and vsm (section 8.4).
-fn mask_of(store: bool, word: u32) -> Instruction
-    ensures { result ≡ mask_of store word }
+#[tactic(auto, unfolding(crate::specs::Word::mask_of))]
+fn mask_of(store: bool, word: u32) -> Option<Access>
+    ensures { accessing result ≡ sized word (mask_of store word) }
 {
     if (vm(word) == 1) & (nf(word) == 0) & (funct3(word) == 0) {
         return access_of(store, Mode::MaskBytes, 0, word);
     }
-    Instruction::Illegal
+    None
 }
 
 // 1, 2, 4 or 8 registers.
@@ -810,34 +817,37 @@ fn whole_count(nf: u32) -> bool
 }
 
 // Whole registers (section 8.9).
-fn whole_of(store: bool, word: u32) -> Instruction
-    ensures { result ≡ whole_of store word }
+#[tactic(auto, unfolding(crate::specs::Word::whole_of))]
+fn whole_of(store: bool, word: u32) -> Option<Access>
+    ensures { accessing result ≡ sized word (whole_of store word) }
 {
     let nf = nf(word);
     if (vm(word) == 1) & whole_count(nf) & (!store | (funct3(word) == 0)) {
         return access_of(store, Mode::Whole((nf + 1) as usize), 0, word);
     }
-    Instruction::Illegal
+    None
 }
 
 // lumop and sumop (section 8.2).
-fn unit_of(store: bool, word: u32) -> Instruction
-    ensures { result ≡ unit_of store word }
+#[tactic(auto, unfolding(crate::specs::Word::unit_of))]
+fn unit_of(store: bool, word: u32) -> Option<Access>
+    ensures { accessing result ≡ sized word (unit_of store word) }
 {
     match rs2(word) {
         0b00000 => segment_of(store, Mode::UnitStride, word),
         0b01000 => whole_of(store, word),
         0b01011 => mask_of(store, word),
-        _ => Instruction::Illegal,
+        _ => None,
     }
 }
 
 // mop and mew (sections 8.2, 8.3).
-fn memory_of(store: bool, word: u32) -> Instruction
-    ensures { result ≡ memory_of store word }
+#[tactic(auto, unfolding(crate::specs::Word::memory_of))]
+fn memory_of(store: bool, word: u32) -> Option<Access>
+    ensures { accessing result ≡ memory_of store word }
 {
-    if (width_of(word) == 0) | (mew(word) == 1) {
-        return Instruction::Illegal;
+    if mew(word) == 1 {
+        return None;
     }
     let field = rs2(word) as usize;
     match mop(word) {
@@ -848,13 +858,14 @@ fn memory_of(store: bool, word: u32) -> Instruction
 }
 
 // What a word names: one instruction, or none that is legal.
+#[tactic(auto, unfolding(crate::specs::Word::decode_of))]
 pub fn decode(word: u32) -> Instruction
     ensures { result ≡ decode_of word }
 {
     match opcode(word) {
         0x57 => arithmetic_of(word),
-        0x07 => memory_of(false, word),
-        0x27 => memory_of(true, word),
+        0x07 => memory_of(false, word).map_or(Instruction::Illegal, Instruction::Memory),
+        0x27 => memory_of(true, word).map_or(Instruction::Illegal, Instruction::Memory),
         _ => Instruction::Illegal,
     }
 }

@@ -7,76 +7,71 @@ ghost use Rattle.std.specs.Prelude.{◌<◌, ◌≤◌, ◌^◌};
 ghost use Rattle.operation.specs.Shape.{eew_of};
 
 use decode::Instruction;
+use fixed::{Element, Vxrm};
 use operation::{Op, Size};
+use std::io::{self, BufReader, BufWriter, Write};
+use width::Eew;
 
-// An operand cut to its width.
+// The bytes of a case, with its newline.
+const LINE: usize = 67;
+
+// No more cases are run.
+const CASES: usize = 1_000_000;
+
+// An operand cut to its width; 0 where the operation has none.
 fn cut(size: Size, sew: u64, x: u64) -> u64
     requires { sew ≤ 64 }
     ensures { result < 2 ^ eew_of size sew }
 {
-    let eew = operation::eew(size, sew);
-    if eew == 0 {
-        return 0;
+    match operation::eew(size, sew) {
+        eew @ 1..=64 => Eew { bits: eew }.low(x),
+        _ => 0,
     }
-    if 64 < eew {
-        return 0;
-    }
-    width::low(eew, x)
 }
 
-fn none() {
-    io::write_all(1, b"none\n");
-}
-
-fn run(op: Op, line: &[u8]) {
+// What an operation gives of the operands in a line; none where it is not there at the line's SEW.
+fn element(op: Op, line: &[u8]) -> Option<Element> {
     let sew = hexadecimal::number(line, 9, 2);
-    if sew < 8 {
-        none();
-        return;
-    }
-    if operation::largest_sew(op) < sew {
-        none();
-        return;
+    if sew < 8 || operation::largest_sew(op) < sew {
+        return None;
     }
     let shape = operation::shape_of(op);
-    let vs2 = shape.vs2;
-    let vs1 = shape.vs1;
-    let a = cut(vs2, sew, hexadecimal::number(line, 14, 16));
-    let b = cut(vs1, sew, hexadecimal::number(line, 31, 16));
+    let a = cut(shape.vs2, sew, hexadecimal::number(line, 14, 16));
+    let b = cut(shape.vs1, sew, hexadecimal::number(line, 31, 16));
     let d = hexadecimal::number(line, 48, 16);
     let c = hexadecimal::number(line, 65, 1) % 2;
-    let rm = fixed::vxrm_of(hexadecimal::number(line, 12, 1));
-    let e = alu::element(op, sew, rm, a, b, d, c);
-    io::print_hex(1, e.value, 16);
-    if e.saturates {
-        io::write_all(1, b" 1\n");
-    } else {
-        io::write_all(1, b" 0\n");
+    let rm = Vxrm::from(hexadecimal::number(line, 12, 1));
+    Some(alu::element(op, sew, rm, a, b, d, c))
+}
+
+// What a case comes to; none where its word names no operation of elements.
+fn outcome(line: &[u8]) -> Option<Element> {
+    match decode::decode(hexadecimal::number(line, 0, 8) as u32) {
+        Instruction::Arithmetic(arithmetic) => element(arithmetic.op, line),
+        _ => None,
     }
 }
 
-// The next case; false where there is none.
-fn step() -> bool {
-    let mut line = [0u8; 67];
-    let n = io::read_full(0, &mut line);
-    if n < 67 {
-        return false;
-    }
-    let word = hexadecimal::number(&line, 0, 8);
-    match decode::decode(word as u32) {
-        Instruction::Arithmetic(a) => {
-            let op = a.op;
-            run(op, &line);
+fn print(output: &mut impl Write, outcome: Option<Element>) -> io::Result<()> {
+    match outcome {
+        Some(Element { value, saturates }) => {
+            writeln!(output, "{value:016x} {}", u8::from(saturates))
         }
-        _ => none(),
+        None => writeln!(output, "none"),
     }
-    true
 }
 
-fn main() {
-    for _ in 0..1000000usize {
-        if !step() {
-            return;
-        }
+fn main(rt: HostRuntime) -> io::Result<()> {
+    let alloc = rt.alloc();
+    let mut input = BufReader::new(alloc, rt.reader())?;
+    let mut output = BufWriter::new(alloc, io::writer(&rt))?;
+    for _ in 0..CASES {
+        let Some(line) = case_lines::next_bytes::<LINE, _>(&mut input) else {
+            break;
+        };
+        print(&mut output, outcome(&line))?;
+        // what is said of this line stands in the output before the next is read
+        output.flush()?;
     }
+    Ok(())
 }

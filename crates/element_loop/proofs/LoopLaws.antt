@@ -1,4 +1,5 @@
 -- From the loop over the elements to the definition of a turn: what the invariant says, and how each way out meets the contract.
+use Rattle.std.specs.Prelude.{Result, Ok, Err}
 use mathlib.Core.Path.{◌≡◌, refl, sym, ap, ◌∙◌, subst}
 use mathlib.Core.Bool.{Bool, true, false, not, ◌||◌, cond}
 use mathlib.Core.List.{List}
@@ -6,7 +7,7 @@ use Prim.Native.Nat.{ℕ, ◌+◌, ◌-◌, ◌*◌, ◌≤◌, ◌<◌, min}
 use native.Mathlib.Omega.{arith}
 use native.Mathlib.Decide.{dec_lt}
 use lib.ListN.{length}
-use lib.Dec.{T, ltb}
+use lib.Dec.{ltb}
 use borrow.Author.Tests.{lt-ltb, le-ltb}
 use mir.Syntax.{w64}
 use mir.Val.{Fits}
@@ -16,18 +17,12 @@ use Rattle.answer.specs.declared.Answer.TheVariants.{Finished, Paused}
 use Rattle.control.specs.declared.Board.{Board}
 use Rattle.control.specs.declared.Control.{Control}
 use Rattle.control.specs.Control.{with_vstart, with_vxsat, dirtied}
-use Rattle.control.proofs.Laws.{possible-apart}
-use Rattle.layout.specs.Layout.{byte_size}
+use Rattle.control.proofs.Laws.{possible-apart, valid}
 use Rattle.layout.proofs.BytesLaws.{Bytes}
 use Rattle.access.specs.declared.FaultPlace.{FaultPlace}
 use Rattle.access.specs.declared.Fault.{Fault}
-use Rattle.access.specs.declared.AccessTest.{AccessTest}
-use Rattle.access.specs.declared.AccessTest.TheVariants.{Granted, Faulted}
 use Rattle.access.specs.Access.{nowhere}
-use Rattle.plan.specs.declared.Action.TheVariants as A
-use Rattle.plan.specs.declared.Compute.{Compute}
-use Rattle.plan.specs.declared.Permute.{Permute}
-use Rattle.plan.specs.declared.Transfer.{Transfer}
+use Rattle.plan.specs.declared.Action.{Action}
 use Rattle.plan.specs.declared.Elementwise.{Elementwise}
 use Rattle.plan.specs.declared.Plan.{Plan}
 use Rattle.plan.specs.declared.Plan.TheVariants as P
@@ -39,22 +34,23 @@ use Rattle.turn_theory.proofs.Laws.{Passed, passed_none, passed-more, passed-tra
 use Rattle.machine.specs.declared.Turned.{Turned}
 use Rattle.machine.specs.State.{Core, State}
 use Rattle.machine.specs.Call.{given, left}
-use Rattle.machine.specs.Effect.{Write, saturating, effect_of}
+use Rattle.machine.specs.Effect.{Write, effect_of}
 use Rattle.machine.specs.Machine.{semantics_of, outcome_of, plan_turn}
 use Rattle.machine.proofs.PlanFacts.{PlanSound, plan-sound}
 use Rattle.machine.proofs.Lawful.{Facts, facts, elements-fit, lawful}
-use Rattle.execute.specs.Step.{Ready, OperandsFit, Permutable, ActionFits, core_at, check_of, state_after, Did}
+use Rattle.execute.specs.Step.{ActionFits, core_at, check_of, state_after, Did}
 use Rattle.element_loop.specs.Runnable.{Runnable}
+use Rattle.element_loop.specs.Step.{Steppable, Stepped}
 use Rattle.element_loop.proofs.Readiness.{Prepared, prepared}
 
 -- ---- checks and effects
 
-pub check-fault : (f : Effect Fault (List Write)) (x : Fault) → Faulted x ≡ check_of f → f ≡ fault x
+pub check-fault : (f : Effect Fault (List Write)) (x : Fault) → Err x ≡ check_of f → f ≡ fault x
 check-fault inactive x h = cc
 check-fault (fault y) x h = let p : x ≡ y = cc in rw p
 check-fault (write l) x h = cc
 
-pub check-granted : (f : Effect Fault (List Write)) → Granted ≡ check_of f → faults f ≡ false
+pub check-granted : (f : Effect Fault (List Write)) → Ok tt ≡ check_of f → faults f ≡ false
 check-granted inactive h = refl
 check-granted (fault y) h = cc
 check-granted (write l) h = refl
@@ -138,10 +134,10 @@ module _ (b : Board) (e : Elementwise) (registers₀ scalars memory₀ rights : 
     pub the-sound : PlanSound b (P.Elements e)
     the-sound =
         subst (PlanSound b) l.plan
-        (plan-sound b scalars c l.word l.valid (possible-apart b c the_facts.acceptable.possible) l.fits)
+        (plan-sound b scalars c l.word (valid b) (possible-apart b c the_facts.acceptable.possible) l.fits)
 
     the-lawful : Lawful J
-    the-lawful = lawful b l.valid (P.Elements e) the-sound
+    the-lawful = lawful b (valid b) (P.Elements e) the-sound
 
     the-legal : elements_legal b c e ≡ true
     the-legal = elements-of-legal b c e the_facts.legal
@@ -152,7 +148,7 @@ module _ (b : Board) (e : Elementwise) (registers₀ scalars memory₀ rights : 
 
     pub next-prepared : (k : ℕ) → k < e.end → Prepared b e k
     next-prepared k =
-        prepared b scalars c l.valid (possible-apart b c the_facts.acceptable.possible) k l.word e l.fits l.plan
+        prepared b scalars c (valid b) (possible-apart b c the_facts.acceptable.possible) k l.word e l.fits l.plan
         is-there (elements-fit b c e the-legal)
 
     pub going-none : Bytes registers₀ → Going 0 registers₀ memory₀ c.vxsat
@@ -164,10 +160,7 @@ module _ (b : Board) (e : Elementwise) (registers₀ scalars memory₀ rights : 
     }
 
     pub end_fits : Fits w64 e.end
-    end_fits = record { fits = omega (arith, the-sound.end, l.valid.most) }
-
-    pub rights-length : length rights ≡ 256
-    rights-length = the_facts.acceptable.rights-length
+    end_fits = record { fits = omega (arith, the-sound.end, (valid b).most) }
 
     -- what a turn that ends so leaves
     ended : (r : Turned) (registers memory : List ℕ) (o : TurnEnd J) → turn J the-turn the-point ≡ o
@@ -185,33 +178,21 @@ module _ (b : Board) (e : Elementwise) (registers₀ scalars memory₀ rights : 
       pub memory-bound : length memory ≤ 65536
       memory-bound = rw g.memory-length the_facts.acceptable.memory-length
 
-      pub next-ready : (x remaining most : ℕ) → remaining ≡ e.end - c.vstart → most ≡ min x remaining → k < most
-          → Ready (length registers) b.vlenb e (c.vstart + k)
-      next-ready x remaining most u v h = rw file-length (next-prepared (c.vstart + k) (omega arith)).ready
+      pub next-steppable : (remaining most : ℕ) (a : Action) → remaining ≡ e.end - c.vstart → most ≡ min allowance remaining → k < most
+          → e.action ≡ a → Steppable b registers memory e (c.vstart + k) a
+      next-steppable remaining most a u v h q =
+          let p = next-prepared (c.vstart + k) (omega arith) in
+          record {
+            action = q;
+            ready = rw file-length p.ready;
+            fits = subst (ActionFits b.vlenb registers e (c.vstart + k)) q (p.action registers g.bytes);
+            registers-length = file-length;
+            memory-length = memory-bound;
+          }
 
-      pub next-operands : (x remaining most : ℕ) (o : Compute) → remaining ≡ e.end - c.vstart → most ≡ min x remaining → k < most
-          → e.action ≡ A.Compute o → OperandsFit b.vlenb registers e o (c.vstart + k)
-      unfolding ActionFits
-      next-operands x remaining most o u v h q =
-          subst (ActionFits b.vlenb registers e (c.vstart + k)) q
-          ((next-prepared (c.vstart + k) (omega arith)).action registers g.bytes)
-
-      pub next-permutable : (x remaining most : ℕ) (p : Permute) → remaining ≡ e.end - c.vstart → most ≡ min x remaining → k < most
-          → e.action ≡ A.Permute p → Permutable (length registers) b.vlenb e p (c.vstart + k)
-      unfolding ActionFits
-      next-permutable x remaining most p u v h q =
-          rw file-length (subst (ActionFits b.vlenb registers e (c.vstart + k)) q
-          ((next-prepared (c.vstart + k) (omega arith)).action registers g.bytes))
-
-      pub next-bytes : (x remaining most : ℕ) (t : Transfer) → remaining ≡ e.end - c.vstart → most ≡ min x remaining → k < most
-          → e.action ≡ A.Transfer t → T (byte_size t.bytes)
-      unfolding ActionFits
-      next-bytes x remaining most t u v h q =
-          subst (ActionFits b.vlenb registers e (c.vstart + k)) q
-          ((next-prepared (c.vstart + k) (omega arith)).action registers g.bytes)
-
-      pub stop-fits : Fits w64 c.vstart → Fits w64 (c.vstart + k)
-      stop-fits f = record { fits = omega (arith, the_within, end_fits.fits, f.fits) }
+      pub stop-fits : (remaining most : ℕ) → remaining ≡ e.end - c.vstart → most ≡ min allowance remaining → Fits w64 c.vstart
+          → Fits w64 (c.vstart + most)
+      stop-fits remaining most u v f = record { fits = omega (arith, end_fits.fits, f.fits) }
 
       -- one element after another, in place
       abbrev here : Core
@@ -220,15 +201,15 @@ module _ (b : Board) (e : Elementwise) (registers₀ scalars memory₀ rights : 
       abbrev the-effect : Effect Fault (List Write)
       the-effect = effect_of b rights here e (c.vstart + k)
 
-      pub trap-left : (remaining most : ℕ) (check : AccessTest) (x : Fault) (registers' memory' : List ℕ) (r : Turned)
+      pub trap-left : (remaining most : ℕ) (came : Result Bool Fault) (x : Fault) (registers' memory' : List ℕ) (r : Turned)
           → r ≡ record { answer = x.answer; passed = k; place = x.place; control = leaving c (c.vstart + k) vxsat }
           → remaining ≡ e.end - c.vstart → most ≡ min allowance remaining → k < most
-          → ((y : List ℕ) (d : Control) → Did b.vlenb (effect_of b rights (core_at registers memory y d) e (c.vstart + k))
-          (core_at registers memory y d) check (core_at registers' memory' y d)) → check ≡ Faulted x
+          → Stepped b rights e (c.vstart + k) registers memory came registers' memory' → came ≡ Err x
           → left r registers' scalars memory' rights ≡ plan_turn b (P.Elements e) allowance the-state
-      trap-left remaining most check x registers' memory' r z u v h did q =
-          let d : Did b.vlenb the-effect here check (core_now scalars c registers' memory' vxsat) = did scalars (besides c 0 vxsat) in
-          let p : the-effect ≡ fault x = check-fault the-effect x (sym q ∙ d.check) in
+      trap-left remaining most came x registers' memory' r z u v h did q =
+          let d : Did b.vlenb the-effect here (Err x) (core_now scalars c registers' memory' vxsat) =
+          rw q at did scalars (besides c 0 vxsat) in
+          let p : the-effect ≡ fault x = check-fault the-effect x d.check in
           let s : core_now scalars c registers' memory' vxsat ≡ here =
           d.state ∙ ap (λ (f : Effect Fault (List Write)). state_after b.vlenb f here) p in
           ended _ registers' memory' _
@@ -237,10 +218,13 @@ module _ (b : Board) (e : Elementwise) (registers₀ scalars memory₀ rights : 
 
       -- a pause where elements remain, a finish where none does
       pub stop-left : (remaining most : ℕ) (r : Turned)
-          → r ≡ stopped remaining k c vxsat → remaining ≡ e.end - c.vstart → most ≡ min allowance remaining → most ≤ k
+          → r ≡ stopped remaining most c vxsat → remaining ≡ e.end - c.vstart → most ≡ min allowance remaining → most ≤ k
           → left r registers scalars memory rights ≡ plan_turn b (P.Elements e) allowance the-state
-      stop-left remaining most r z u v h = by-rest (dec_lt k remaining)
+      stop-left remaining most r q u v h = by-rest (dec_lt k remaining)
         where
+          z : r ≡ stopped remaining k c vxsat
+          z = let o : most ≡ k = omega (arith, the_within) in rw o at q
+
           by-rest : Dec (k < remaining) → left r registers scalars memory rights ≡ plan_turn b (P.Elements e) allowance the-state
           by-rest (yes m) =
               ended _ registers memory _
@@ -254,7 +238,7 @@ module _ (b : Board) (e : Elementwise) (registers₀ scalars memory₀ rights : 
       -- an element that is passed, from here to what it leaves
       going_more : (remaining most : ℕ) (registers' memory' : List ℕ) (vxsat' : ℕ)
           → remaining ≡ e.end - c.vstart → most ≡ min allowance remaining → k < most
-          → Did b.vlenb the-effect here Granted (core_now scalars c registers' memory' vxsat')
+          → Did b.vlenb the-effect here (Ok tt) (core_now scalars c registers' memory' vxsat')
           → Bytes registers' → length registers' ≡ length registers → length memory' ≡ length memory
           → Going (k + 1) registers' memory' vxsat'
       going_more remaining most registers' memory' vxsat' u v h d y m n = record {
@@ -266,31 +250,11 @@ module _ (b : Board) (e : Elementwise) (registers₀ scalars memory₀ rights : 
         memory-length = n ∙ g.memory-length;
       }
 
-      pub computed_more : (remaining most : ℕ) (saturates : Bool) (registers' : List ℕ) (vxsat' : ℕ)
+      pub step-more : (remaining most : ℕ) (came : Result Bool Fault) (saturates : Bool) (registers' memory' : List ℕ) (vxsat' : ℕ)
           → remaining ≡ e.end - c.vstart → most ≡ min allowance remaining → k < most
-          → ((r m y : List ℕ) (d : Control) → Did b.vlenb (effect_of b r (core_at registers m y d) e (c.vstart + k))
-          (core_at registers m y d) Granted (core_at registers' m y (saturating saturates d)))
-          → vxsat' ≡ cond saturates 1 vxsat → Bytes registers' → length registers' ≡ length registers
-          → Going (k + 1) registers' memory vxsat'
-      computed_more remaining most saturates registers' vxsat' u v h did q y m =
-          rw q (going_more remaining most registers' memory (cond saturates 1 vxsat) u v h (did rights memory scalars (besides c 0 vxsat))
-          y m refl)
-
-      -- a permutation saturates nothing
-      pub permuted-more : (remaining most : ℕ) (registers' : List ℕ)
-          → remaining ≡ e.end - c.vstart → most ≡ min allowance remaining → k < most
-          → ((r m y : List ℕ) (d : Control) → Did b.vlenb (effect_of b r (core_at registers m y d) e (c.vstart + k))
-          (core_at registers m y d) Granted (core_at registers' m y d))
-          → Bytes registers' → length registers' ≡ length registers
-          → Going (k + 1) registers' memory vxsat
-      permuted-more remaining most registers' u v h did y m =
-          going_more remaining most registers' memory vxsat u v h (did rights memory scalars (besides c 0 vxsat)) y m refl
-
-      pub transferred-more : (remaining most : ℕ) (check : AccessTest) (registers' memory' : List ℕ)
-          → remaining ≡ e.end - c.vstart → most ≡ min allowance remaining → k < most
-          → ((y : List ℕ) (d : Control) → Did b.vlenb (effect_of b rights (core_at registers memory y d) e (c.vstart + k))
-          (core_at registers memory y d) check (core_at registers' memory' y d)) → check ≡ Granted
-          → Bytes registers' → length registers' ≡ length registers → length memory' ≡ length memory
-          → Going (k + 1) registers' memory' vxsat
-      transferred-more remaining most check registers' memory' u v h did q y m n =
-          going_more remaining most registers' memory' vxsat u v h (rw q at did scalars (besides c 0 vxsat)) y m n
+          → Stepped b rights e (c.vstart + k) registers memory came registers' memory' → came ≡ Ok saturates
+          → vxsat' ≡ cond saturates 1 vxsat → Bytes registers' → length registers' ≡ length registers → length memory' ≡ length memory
+          → Going (k + 1) registers' memory' vxsat'
+      step-more remaining most came saturates registers' memory' vxsat' u v h did q z y m n =
+          rw z (going_more remaining most registers' memory' (cond saturates 1 vxsat) u v h
+          (rw q at did scalars (besides c 0 vxsat)) y m n)

@@ -8,13 +8,15 @@ ghost use Rattle.std.proofs.Common.{Fits};
 ghost use Rattle.answer.specs.declared.Answer.TheVariants.{Finished, Paused};
 ghost use Rattle.control.specs.Control.{with_vstart, with_vxsat, dirtied};
 ghost use Rattle.access.specs.Access.{nowhere};
+ghost use Rattle.plan.specs.declared.Action.{Action};
 ghost use Rattle.plan.specs.declared.Action.TheVariants as Act;
 ghost use Rattle.plan.specs.declared.Plan.TheVariants as P;
 ghost use Rattle.machine.specs.Call.{given, left};
 ghost use Rattle.machine.specs.Machine.{plan_turn};
 ghost use Rattle.element_loop.specs.Runnable.{Runnable};
+ghost use Rattle.element_loop.specs.Step.{Steppable, Stepped};
 
-use access::{AccessTest, Fault, FaultPlace};
+use access::{Fault, FaultPlace};
 use answer::Answer;
 use control::{Board, Control};
 use machine::Turned;
@@ -50,9 +52,7 @@ fn trapped(fault: Fault, passed: u64, c: Control, vstart: u64, vxsat: u64) -> Tu
       control = dirtied (with_vxsat (with_vstart c vstart) vxsat);
     } }
 {
-    let answer = fault.answer;
-    let place = fault.place;
-    ended(answer, passed, place, c, vstart, vxsat)
+    ended(fault.answer, passed, fault.place, c, vstart, vxsat)
 }
 
 // vxsat after an element that saturates or not.
@@ -80,102 +80,105 @@ fn stopped(remaining: u64, passed: u64, c: Control, vxsat: u64) -> Turned
     ended(Answer::Finished, passed, place, c, 0, vxsat)
 }
 
-// The elements of a legal plan that computes, upward from vstart: as many as the smaller of allowance and remaining.
-fn computed(
-    board: Board,
-    registers: &mut [u8],
-    scalars: &[u64],
-    memory: &[u8],
-    rights: &[u8],
-    control: Control,
-    allowance: u64,
-    e: Elementwise,
-    operation: Compute,
-) -> Turned
-    requires { Runnable board (given registers.old scalars.now memory.now rights.now control) e
-        × (e.action ≡ Act.Compute operation) }
-    ensures { left result registers.new scalars.now memory.now rights.now
-        ≡ plan_turn board (P.Elements e) allowance
-        (given registers.old scalars.now memory.now rights.now control) }
-{
-    let vstart = control.vstart;
-    let remaining = control::less(e.end, vstart);
-    let count = control::smaller(allowance, remaining);
-    let mut vxsat = control.vxsat;
-    let mut k: u64 = 0;
-    while k < count {
-        let i = (vstart + k) as usize;
-        vxsat = saturated(
-            vxsat,
-            execute::compute_element(registers, board, e, operation, i),
-        );
-        k += 1;
-    }
-    stopped(remaining, k, control, vxsat)
+// What is done to one element: an operation, a permutation, a load or a store.
+trait Step: Copy {
+    // The action of the plans whose elements it carries out.
+    ghost action: { Self → Action };
+
+    // Element i, from the state as it is: whether it saturates, or its fault.
+    fn element(
+        self,
+        board: Board,
+        registers: &mut [u8],
+        memory: &mut [u8],
+        rights: &[u8; 256],
+        e: Elementwise,
+        i: usize,
+    ) -> Result<bool, Fault>
+        requires { Steppable board registers.old memory.old e i (action self) }
+        ensures { Stepped board rights.now e i registers.old memory.old result registers.new memory.new };
 }
 
-// The elements of a legal permutation: likewise.
-fn permuted(
-    board: Board,
-    registers: &mut [u8],
-    scalars: &[u64],
-    memory: &[u8],
-    rights: &[u8],
-    control: Control,
-    allowance: u64,
-    e: Elementwise,
-    p: Permute,
-) -> Turned
-    requires { Runnable board (given registers.old scalars.now memory.now rights.now control) e
-        × (e.action ≡ Act.Permute p) }
-    ensures { left result registers.new scalars.now memory.now rights.now
-        ≡ plan_turn board (P.Elements e) allowance
-        (given registers.old scalars.now memory.now rights.now control) }
-{
-    let vstart = control.vstart;
-    let remaining = control::less(e.end, vstart);
-    let stretch = control::smaller(allowance, remaining);
-    let vxsat = control.vxsat;
-    let mut k: u64 = 0;
-    while k < stretch {
-        let i = (vstart + k) as usize;
-        permutation::element(registers, board, e, p, i);
-        k += 1;
+impl Step for Compute {
+    ghost action = { Act.Compute };
+
+    fn element(
+        self,
+        board: Board,
+        registers: &mut [u8],
+        _memory: &mut [u8],
+        _rights: &[u8; 256],
+        e: Elementwise,
+        i: usize,
+    ) -> Result<bool, Fault> {
+        Ok(execute::compute_element(registers, board, e, self, i))
     }
-    stopped(remaining, k, control, vxsat)
 }
 
-// The elements of a legal load or store: likewise, or those before the first fault.
-fn transferred(
+impl Step for Permute {
+    ghost action = { Act.Permute };
+
+    fn element(
+        self,
+        board: Board,
+        registers: &mut [u8],
+        _memory: &mut [u8],
+        _rights: &[u8; 256],
+        e: Elementwise,
+        i: usize,
+    ) -> Result<bool, Fault> {
+        permutation::element(registers, board, e, self, i);
+        Ok(false)
+    }
+}
+
+impl Step for Transfer {
+    ghost action = { Act.Transfer };
+
+    fn element(
+        self,
+        board: Board,
+        registers: &mut [u8],
+        memory: &mut [u8],
+        rights: &[u8; 256],
+        e: Elementwise,
+        i: usize,
+    ) -> Result<bool, Fault> {
+        execute::transfer_element(registers, memory, rights, board, e, self, i)?;
+        Ok(false)
+    }
+}
+
+// The elements of a legal plan, upward from vstart: as many as the smaller of allowance and remaining, or those before the first fault.
+fn upward<S: Step>(
     board: Board,
     registers: &mut [u8],
     scalars: &[u64],
     memory: &mut [u8],
-    rights: &[u8],
+    rights: &[u8; 256],
     control: Control,
     allowance: u64,
     e: Elementwise,
-    t: Transfer,
+    step: S,
 ) -> Turned
     requires { Runnable board (given registers.old scalars.now memory.old rights.now control) e
-        × (e.action ≡ Act.Transfer t) }
+        × (e.action ≡ S.action step) }
     ensures { left result registers.new scalars.now memory.new rights.now
         ≡ plan_turn board (P.Elements e) allowance
         (given registers.old scalars.now memory.old rights.now control) }
 {
     let vstart = control.vstart;
-    let remaining = control::less(e.end, vstart);
-    let most = control::smaller(allowance, remaining);
-    let vxsat = control.vxsat;
-    let mut k: u64 = 0;
-    while k < most {
-        let i = (vstart + k) as usize;
-        match execute::transfer_element(registers, memory, rights, board, e, t, i) {
-            AccessTest::Faulted(fault) => return trapped(fault, k, control, vstart + k, vxsat),
-            AccessTest::Granted => k += 1,
+    let remaining = e.end.saturating_sub(vstart);
+    let count = allowance.min(remaining);
+    let mut vxsat = control.vxsat;
+    for k in 0..count {
+        let i = vstart + k;
+        match step.element(board, registers, memory, rights, e, i as usize) {
+            Ok(saturates) => vxsat = saturated(vxsat, saturates),
+            Err(fault) => return trapped(fault, k, control, i, vxsat),
         }
     }
-    stopped(remaining, k, control, vxsat)
+    stopped(remaining, count, control, vxsat)
 }
 
 // The elements of a legal plan.
@@ -184,7 +187,7 @@ pub fn elements(
     registers: &mut [u8],
     scalars: &[u64],
     memory: &mut [u8],
-    rights: &[u8],
+    rights: &[u8; 256],
     control: Control,
     allowance: u64,
     e: Elementwise,
@@ -194,15 +197,14 @@ pub fn elements(
         ≡ plan_turn board (P.Elements e) allowance
         (given registers.old scalars.now memory.old rights.now control) }
 {
-    let action = e.action;
-    match action {
-        Action::Compute(operation) => computed(
+    match e.action {
+        Action::Compute(operation) => upward(
             board, registers, scalars, memory, rights, control, allowance, e, operation,
         ),
-        Action::Permute(p) => permuted(
+        Action::Permute(p) => upward(
             board, registers, scalars, memory, rights, control, allowance, e, p,
         ),
-        Action::Transfer(t) => transferred(
+        Action::Transfer(t) => upward(
             board, registers, scalars, memory, rights, control, allowance, e, t,
         ),
     }

@@ -1,11 +1,11 @@
 -- What each of the two boards decides: what goes by one of its numbers, over any board; the rest by computation.
+use Rattle.std.specs.Prelude.{Ok}
 use Prim.Native.Nat.{◌^◌, ◌*◌}
 use mathlib.Core.Path.{◌≡◌, refl}
 use mathlib.Core.Bool.{Bool, true, false, ◌&&◌}
 use mathlib.Core.List.{map}
 use lib.ListN.{replicate}
 use lib.Dec.{ltb}
-use Rattle.answer.specs.declared.Verdict.TheVariants.{Accepted}
 use Rattle.control.specs.declared.Board.{Board}
 use Rattle.control.specs.Board.{base, small}
 use Rattle.control.specs.Vtype.{vlmax_of, supported_of}
@@ -36,7 +36,7 @@ module _ (b : Board) (n : Numbers) where
   decided :
       8 * b.vlenb ≡ n.vlen → b.elen ≡ n.elen → b.vlenb ≡ n.vlenb → 32 * b.vlenb ≡ n.file →
       8 * b.vlenb ≡ n.vstarts → 8 * b.vlenb ≡ 2 ^ n.kept → 64 * b.vlenb ≡ n.bound →
-      refusal_of b n.file 32 0 (replicate 256 0) reset ≡ Accepted → supported_below b 256 ≡ n.types →
+      refusal_of b n.file 32 0 (replicate 256 0) reset ≡ Ok tt → supported_below b 256 ≡ n.types →
       vlmax_tables b ≡ replicate 4 n.vlmax → eew64_answers b ≡ n.eew64 → product_answers b ≡ map (replicate 4) n.products →
       Decides b n
   unfolding read_of written_of refusal_of possible_of typed_well_of

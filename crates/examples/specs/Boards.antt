@@ -1,13 +1,13 @@
 -- What a board decides, in numbers: document 01 for the first board, document 02, A11, for the smaller one.
 use Rattle.std.specs.Prelude.{ℕ, ◌+◌, ◌*◌, ◌/◌, ◌%◌, ◌^◌, ◌≡◌, true, false, not, ◌&&◌, cond, List, [], ◌∷◌, map, replicate, ltb, eqb}
+use Rattle.std.specs.Prelude.{Ok, Err}
 use Rattle.answer.specs.declared.Answer.{Answer}
 use Rattle.answer.specs.declared.Answer.TheVariants.{Finished, Paused, Illegal, BadRegisters, BadControl}
-use Rattle.answer.specs.declared.Verdict.TheVariants.{Accepted, Refused}
 use Rattle.control.specs.declared.Board.{Board}
 use Rattle.control.specs.declared.Control.{Control}
 use Rattle.control.specs.Vtype.{vill, sew_of, vlmax_of, supported_of}
 use Rattle.control.specs.Control.{reset, with_vstart, is_off, possible_of}
-use Rattle.csr.specs.Csr.{value, read_of, changed, written_of}
+use Rattle.csr.specs.Csr.{read_of, changed, written_of}
 use Rattle.refusal.specs.Refusal.{refusal_of}
 use Rattle.legality.specs.Legal.{startable}
 use Rattle.machine.specs.Machine.{turn_of}
@@ -110,11 +110,11 @@ pub record Decides (b : Board) (n : Numbers) : Type 0 where
   pub vlen-is : 8 * b.vlenb ≡ n.vlen
   pub elen-is : b.elen ≡ n.elen
   -- of every record that can be, unless VS is Off
-  pub vlenb-is : (c : Control) → possible_of b c ≡ true → is_off c ≡ false → read_of b c 0xC22 ≡ value n.vlenb
+  pub vlenb-is : (c : Control) → possible_of b c ≡ true → is_off c ≡ false → read_of b c 0xC22 ≡ Ok n.vlenb
   -- a file of any other length is 32, whatever else is handed in; this one is not
   pub other-file : (bytes scalars memory : ℕ) (rights : List ℕ) (c : Control) → eqb bytes n.file ≡ false
-      → refusal_of b bytes scalars memory rights c ≡ Refused BadRegisters
-  pub file-is : refusal_of b n.file 32 0 (replicate 256 0) reset ≡ Accepted
+      → refusal_of b bytes scalars memory rights c ≡ Err BadRegisters
+  pub file-is : refusal_of b n.file 32 0 (replicate 256 0) reset ≡ Ok tt
   -- those from 256 on are never supported
   pub types_are : supported_below b 256 ≡ n.types
   -- whatever vta and vma are

@@ -1,11 +1,10 @@
 -- The worked values of document 01, 'Values on both sides', over the definitions that the calls promise.
-use Rattle.std.specs.Prelude.{ℕ, zero, suc, ◌+◌, ◌-◌, ◌*◌, ◌^◌, ◌≡◌, List, [], ◌∷◌, map, replicate}
+use Rattle.std.specs.Prelude.{ℕ, zero, suc, ◌+◌, ◌-◌, ◌*◌, ◌^◌, ◌≡◌, List, [], ◌∷◌, map, replicate, Some}
 use Rattle.answer.specs.declared.Answer.{Answer}
 use Rattle.answer.specs.declared.Answer.TheVariants.{Finished, Illegal}
 use Rattle.width.specs.Width.{flag}
 use Rattle.control.specs.declared.Board.{Board}
 use Rattle.control.specs.Board.{base}
-use Rattle.control.specs.declared.Avl.TheVariants.{To}
 use Rattle.control.specs.Vtype.{vill, vlmax_of, supported_of}
 use Rattle.control.specs.Control.{reset, with_vtype, with_vstart, set_of}
 use Rattle.fixed.specs.declared.Element.{Element}
@@ -58,11 +57,11 @@ added_at vstart = (turn_of base 0x022180D7 (2 ^ 32 - 1) (e64_at vstart)).answer
 
 pub record Values : Type 0 where
   -- vtype 0x10: AVL 0, 3, 4, 5, 2^64 - 1 give vl 0, 3, 4, 4, 4
-  pub P1 : map (λ (avl : ℕ). (set_of base reset 0x10 (To avl)).vl) (0 ∷ 3 ∷ 4 ∷ 5 ∷ (2 ^ 64 - 1) ∷ []) ≡ (0 ∷ 3 ∷ 4 ∷ 4 ∷ 4 ∷ [])
+  pub P1 : map (λ (avl : ℕ). (set_of base reset 0x10 (Some avl)).vl) (0 ∷ 3 ∷ 4 ∷ 5 ∷ (2 ^ 64 - 1) ∷ []) ≡ (0 ∷ 3 ∷ 4 ∷ 4 ∷ 4 ∷ [])
   -- 0x05, 0x17, 0x03: VLMAX 2, 2, 128
   pub P2 : map (vlmax_of base) (0x05 ∷ 0x17 ∷ 0x03 ∷ []) ≡ (2 ∷ 2 ∷ 128 ∷ [])
   -- 0x0D, 0x1F, 0x04, 0x110: vill
-  pub P3 : map (λ (v : ℕ). (set_of base reset v (To 1)).vtype) (0x0D ∷ 0x1F ∷ 0x04 ∷ 0x110 ∷ []) ≡ (vill ∷ vill ∷ vill ∷ vill ∷ [])
+  pub P3 : map (λ (v : ℕ). (set_of base reset v (Some 1)).vtype) (0x0D ∷ 0x1F ∷ 0x04 ∷ 0x110 ∷ []) ≡ (vill ∷ vill ∷ vill ∷ vill ∷ [])
   -- e8 vaadd 2 + 3: rnu 3, rne 2, rdn 2, rod 3
   pub P4 : modes (at8 Vaadd 2 3) ≡ (exact 3 ∷ exact 2 ∷ exact 2 ∷ exact 3 ∷ [])
   -- 2 + 5: 4, 4, 3, 3

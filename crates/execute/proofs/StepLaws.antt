@@ -1,17 +1,16 @@
 -- Operands by where they come from, and an element by what it comes to: masked off, faulted, moved field by field, or computed.
-use Rattle.std.proofs.Common.{◌≡◌, ℕ, suc, ◌+◌, ◌-◌, ◌*◌, ◌^◌, ◌<◌, ◌≤◌, Bool, true, false, cond, ◌&&◌, eqb, List, [], ◌∷◌, length, sym, refl, ap, ◌∙◌, subst, mul-le-mul_right, mod-eq_of_lt, add-one, arith, w64, Fits}
+use Rattle.std.proofs.Common.{◌≡◌, ℕ, suc, ◌+◌, ◌-◌, ◌*◌, ◌^◌, ◌<◌, ◌≤◌, Bool, true, false, cond, List, [], ◌∷◌, length, sym, refl, ap, ◌∙◌, subst, mul-le-mul_right, mod-eq_of_lt, add-one, arith}
+use Rattle.std.specs.Prelude.{Result, Ok, ⊤}
 use Rattle.fixed.specs.declared.Element.{Element}
 use Rattle.alu.specs.Element.{element_of}
 use Rattle.control.specs.declared.Board.{Board}
 use Rattle.control.specs.declared.Control.{Control}
 use Rattle.group.specs.declared.Group.{Group}
-use Rattle.group.specs.Group.{registers_of, nfields, field_group, span_of}
+use Rattle.group.specs.Group.{registers_of, nfields, field_group}
 use Rattle.layout.specs.Layout.{bytes_at, with_bytes, element_at, with_element, Inside}
 use Rattle.layout.proofs.BytesLaws.{length-with_bytes}
 use Rattle.layout.proofs.ElementLaws.{length-with_element}
 use Rattle.access.specs.declared.Fault.{Fault}
-use Rattle.access.specs.declared.AccessTest.{AccessTest}
-use Rattle.access.specs.declared.AccessTest.TheVariants.{Granted, Faulted}
 use Rattle.access.specs.Access.{field_address, fields_access}
 use Rattle.plan.specs.declared.Read.{Read}
 use Rattle.plan.specs.declared.Action.{Action}
@@ -31,10 +30,6 @@ read-inside size vlenb i read v e h = rw e at h
 
 pub value-of : (vlenb i r : ℕ) (file : List ℕ) (read v : Read) → read ≡ v → r ≡ value_of vlenb file v i → r ≡ value_of vlenb file read i
 value-of vlenb i r file read v e p = rw e p
-
--- a bit that is set where its element is active
-pub set_is : (a b : Bool) (x y : ℕ) → a ≡ b → x ≡ y → (a && eqb x 1) ≡ (b && eqb y 1)
-set_is a b x y p q = rw (p, q)
 
 -- ---- the fields of an element, one after the other
 
@@ -83,7 +78,6 @@ module _ (vlenb : ℕ) (file₀ memory₀ : List ℕ) (store : Bool) (g : Group)
   writes k others = each_field (field_write vlenb file₀ memory₀ store g n i a) k others
 
   pub record Moving (file memory : List ℕ) (reg field k : ℕ) : Type 0 where
-    pub most : k ≤ nfields g
     pub register : reg ≡ (field_group g k).reg
     pub address : field ≡ a + k * n
     pub file-length : length file ≡ length file₀
@@ -96,7 +90,6 @@ module _ (vlenb : ℕ) (file₀ memory₀ : List ℕ) (store : Bool) (g : Group)
 
   pub moving-none : Moving file₀ memory₀ g.reg a 0
   moving-none = record {
-    most = omega arith;
     register = omega arith;
     address = omega arith;
     file-length = refl;
@@ -117,7 +110,6 @@ module _ (vlenb : ℕ) (file₀ memory₀ : List ℕ) (store : Bool) (g : Group)
         → memory' ≡ cond store (with_bytes memory field n (element_at vlenb file reg g.eew i)) memory
         → step ≡ registers_of g → Moving file' memory' (reg + step) (field + n) (k + 1)
     moving-more file' memory' step t u r s p = record {
-      most = omega arith;
       register = omega (arith, p, z.register);
       address = omega (arith, z.address);
       file-length = r-length store r ∙ z.file-length;
@@ -152,66 +144,55 @@ module _ (vlenb : ℕ) (file₀ memory₀ : List ℕ) (store : Bool) (g : Group)
       s-length true e = rw e (length-with_bytes memory field n (element_at vlenb file reg g.eew i))
       s-length false e = rw e
 
-    pub moving-inside : FieldsInside (length file₀) vlenb g i → Inside (length file) vlenb reg g.eew i
-    moving-inside f = rw (z.file-length, z.register) (f k l)
-
-    pub moving-room : a + nfields g * n ≤ length memory₀ → field + n ≤ length memory
-    moving-room u = omega (arith, z.memory-length, z.address, mul-le-mul_right n l)
-
-    pub register-fits : (r : ℕ) → g.reg + span_of g ≤ 32 → r ≡ registers_of g → Fits w64 (reg + r)
-    register-fits r u e = record { fits = omega (arith, z.register, mul-le-mul_right (registers_of g) l) }
-
-    pub field_fits : length memory₀ ≤ 65536 → a + nfields g * n ≤ length memory₀ → Fits w64 (field + n)
-    field_fits h u = record { fits = omega (arith, z.memory-length, moving-room u) }
-
-  pub moving-done : (file memory : List ℕ) (reg field k : ℕ) → Moving file memory reg field k → g.nf < k → (x : List ℕ) (c : Control)
-      → core_at file memory x c ≡ put_all vlenb (writes 0 (nfields g)) (core_at file₀ memory₀ x c)
-  unfolding put_all each_field
-  moving-done file memory reg field k z l x c = let none : nfields g - k ≡ 0 = omega arith in sym (rw none) ∙ z.rest x c
+    -- after the last one
+    pub moving-last : g.nf ≤ k → (file' memory' : List ℕ) (step : ℕ) → length memory₀ ≤ 65536 → a + nfields g * n ≤ length memory₀
+        → file' ≡ cond store file (with_element vlenb file reg g.eew i (bytes_at memory field n))
+        → memory' ≡ cond store (with_bytes memory field n (element_at vlenb file reg g.eew i)) memory
+        → step ≡ registers_of g → (x : List ℕ) (c : Control)
+        → core_at file' memory' x c ≡ put_all vlenb (writes 0 (nfields g)) (core_at file₀ memory₀ x c)
+    unfolding put_all each_field
+    moving-last m file' memory' step t u r s p x c =
+        let none : nfields g - (k + 1) ≡ 0 = omega arith in
+        sym (rw none) ∙ (moving-more file' memory' step t u r s p).rest x c
 
 -- ---- elements
 
-module _ (vlenb : ℕ) (rights file memory file' memory' : List ℕ) (store : Bool) (g : Group) (n i a : ℕ) (v : AccessTest)
+module _ (vlenb : ℕ) (rights file memory file' memory' : List ℕ) (store : Bool) (g : Group) (n i a : ℕ) (v : Result ⊤ Fault)
     (p : v ≡ fields_access rights (length memory) store a n 0 (nfields g)) (x : List ℕ) (c : Control) where
   abbrev moves : Effect Fault (List Write)
   moves = transferring vlenb rights (core_at file memory x c) store g n i a
 
-  pub faulted : (f : Fault) → v ≡ Faulted f → Did vlenb moves (core_at file memory x c) v (core_at file memory x c)
-  faulted f q =
-      let h : fields_access rights (length memory) store a n 0 (nfields g) ≡ Faulted f = cc in
-      record { check = q ∙ rw h; state = rw h }
-
-  pub moved : v ≡ Granted
+  pub moved : v ≡ Ok tt
       → ((x : List ℕ) (c : Control) → core_at file' memory' x c
       ≡ put_all vlenb (each_field (field_write vlenb file memory store g n i a) 0 (nfields g)) (core_at file memory x c))
-      → Did vlenb moves (core_at file memory x c) v (core_at file' memory' x c)
+      → Did vlenb moves (core_at file memory x c) (Ok tt) (core_at file' memory' x c)
   moved q d =
-      let h : fields_access rights (length memory) store a n 0 (nfields g) ≡ Granted = cc in
-      record { check = q ∙ rw h; state = rw h (d x c) }
+      let h : fields_access rights (length memory) store a n 0 (nfields g) ≡ Ok tt = cc in
+      record { check = rw h; state = rw h (d x c) }
 
 pub computed : (vlenb : ℕ) (i o o' p p' d d' v v' : ℕ) (file memory file' x : List ℕ) (c : Control) (g : Group) (k : Compute) (r : Element)
     → o ≡ o' → p ≡ p' → d ≡ d' → v ≡ v' → r ≡ element_of k.sew k.vxrm o p d v k.op
     → file' ≡ with_element vlenb file g.reg g.eew i r.value
     → Did vlenb (write (to_registers g i (element_of k.sew k.vxrm o' p' d' v' k.op) ∷ []))
-    (core_at file memory x c) Granted (core_at file' memory x (saturating r.saturates c))
+    (core_at file memory x c) (Ok tt) (core_at file' memory x (saturating r.saturates c))
 unfolding put_all put_of
 computed vlenb i o o' p p' d d' v v' file memory file' x c g k r eo ep ed ev e l =
     let h : element_of k.sew k.vxrm o' p' d' v' k.op ≡ r = rw (← eo, ← ep, ← ed, ← ev, ← e) in
     record { check = refl; state = rw (h, l) }
 
 -- by the address as it was worked out
-pub transfers-at : (vlenb : ℕ) (rights : List ℕ) (s s' : Core) (t : Transfer) (g : Group) (r : AccessTest) (a i o p : ℕ) → o ≡ p
+pub transfers-at : (vlenb : ℕ) (rights : List ℕ) (s s' : Core) (t : Transfer) (g : Group) (r : Result ⊤ Fault) (a i o p : ℕ) → o ≡ p
     → a ≡ element_address t i o → Did vlenb (transferring vlenb rights s t.store g t.bytes i a) s r s'
     → Did vlenb (transferring vlenb rights s t.store g t.bytes i (element_address t i p)) s r s'
 transfers-at vlenb rights s s' t g r a i o p e h d = rw (h, e) at d
 
 module _ (b : Board) (rights : List ℕ) (s : Core) (e : Elementwise) (i : ℕ) (t : Bool)
     (p : t ≡ active_of b.vlenb s.registers e.masked i) where
-  pub masked_off : t ≡ false → Did b.vlenb (effect_of b rights s e i) s Granted s
+  pub masked_off : t ≡ false → Did b.vlenb (effect_of b rights s e i) s (Ok tt) s
   unfolding effect_of
   masked_off n = let h = sym p ∙ n in record { check = rw h; state = rw h }
 
-  pub acted : {v : Action} {r : AccessTest} {s' : Core} → t ≡ true → e.action ≡ v → Did b.vlenb (acting_of b rights s e i v) s r s'
+  pub acted : {v : Action} {r : Result ⊤ Fault} {s' : Core} → t ≡ true → e.action ≡ v → Did b.vlenb (acting_of b rights s e i v) s r s'
       → Did b.vlenb (effect_of b rights s e i) s r s'
   unfolding effect_of
   acted {r = r} {s'} n q d =

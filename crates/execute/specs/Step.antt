@@ -1,6 +1,6 @@
 -- For contracts of inner functions, not to be believed: one element in the code's terms, what it relies on, what it comes to and what it
 -- leaves.
-use Rattle.std.specs.Prelude.{◌≡◌, ℕ, zero, suc, ◌+◌, ◌*◌, ◌<◌, ◌≤◌, Bool, true, false, T, List}
+use Rattle.std.specs.Prelude.{◌≡◌, ℕ, zero, suc, ◌+◌, ◌*◌, ◌<◌, ◌≤◌, Bool, true, false, T, List, Result, Ok, Err, ⊤}
 use Rattle.width.specs.Width.{Width}
 use Rattle.alu.specs.Element.{Operands}
 use Rattle.control.specs.declared.Board.{Board}
@@ -18,8 +18,6 @@ use Rattle.plan.specs.declared.Elementwise.{Elementwise}
 use Rattle.turn_theory.specs.Turn.{Effect, inactive, fault, write}
 use Rattle.machine.specs.State.{Core}
 use Rattle.access.specs.declared.Fault.{Fault}
-use Rattle.access.specs.declared.AccessTest.{AccessTest}
-use Rattle.access.specs.declared.AccessTest.TheVariants.{Granted, Faulted}
 use Rattle.machine.specs.Effect.{Write, put_all, value_of, effect_of}
 
 -- an operand's element i lies inside a register file of so many bytes
@@ -65,10 +63,10 @@ ActionFits vlenb file e i (A.Permute p) = Permutable (32 * vlenb) vlenb e p i
 ActionFits vlenb file e i (A.Transfer t) = T (byte_size t.bytes)
 
 -- whether an effect is a fault, as the access test says it, and the state that it leaves
-abbrev pub check_of : Effect Fault (List Write) → AccessTest
-check_of inactive = Granted
-check_of (fault f) = Faulted f
-check_of (write l) = Granted
+abbrev pub check_of : Effect Fault (List Write) → Result ⊤ Fault
+check_of inactive = Ok tt
+check_of (fault f) = Err f
+check_of (write l) = Ok tt
 
 abbrev pub state_after : ℕ → Effect Fault (List Write) → Core → Core
 state_after vlenb inactive s = s
@@ -76,14 +74,14 @@ state_after vlenb (fault f) s = s
 state_after vlenb (write l) s = put_all vlenb l s
 
 -- an effect was carried out in place, from the state s to the state s'
-pub record Did (vlenb : ℕ) (f : Effect Fault (List Write)) (s : Core) (r : AccessTest) (s' : Core) : Type 0 where
+pub record Did (vlenb : ℕ) (f : Effect Fault (List Write)) (s : Core) (r : Result ⊤ Fault) (s' : Core) : Type 0 where
   pub check : r ≡ check_of f
   pub state : s' ≡ state_after vlenb f s
 
 -- the n elements of a plan from index i up were carried out one after the other in place, and none faulted
 pub data Ran (b : Board) (rights : List ℕ) (e : Elementwise) (i : ℕ) (s : Core) : ℕ → Core → Type 0 where
   none : Ran b rights e i s zero s
-  more : (n : ℕ) (s' s'' : Core) → Ran b rights e i s n s' → Did b.vlenb (effect_of b rights s' e (i + n)) s' Granted s''
+  more : (n : ℕ) (s' s'' : Core) → Ran b rights e i s n s' → Did b.vlenb (effect_of b rights s' e (i + n)) s' (Ok tt) s''
       → Ran b rights e i s (suc n) s''
 
 -- either they were, or nothing was touched

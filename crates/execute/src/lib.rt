@@ -2,18 +2,17 @@
 
 #![tactic(auto)]
 
-ghost use Rattle.std.specs.Prelude.{◌≡◌, ℕ, ◌+◌, ◌*◌, ◌≤◌, cond, T, List, length};
+ghost use Rattle.std.specs.Prelude.{◌≡◌, ℕ, ◌+◌, ◌*◌, ◌≤◌, cond, T, List, length, Ok};
 ghost use Rattle.control.specs.declared.Control.{Control};
 ghost use Rattle.layout.specs.Layout.{bytes_at, with_bytes, element_at, with_element, Inside, byte_size};
 ghost use Rattle.group.specs.Group.{nfields, span_of};
-ghost use Rattle.access.specs.declared.AccessTest.TheVariants.{Granted};
 ghost use Rattle.plan.specs.declared.Action.TheVariants as Act;
 ghost use Rattle.machine.specs.Effect.{saturating, put_all, value_of, active_of, element_address};
 ghost use Rattle.machine.specs.Effect.{each_field, field_write, computing, transferring, effect_of};
 ghost use Rattle.machine.specs.OneTurn.{set_at};
 ghost use Rattle.execute.specs.Step.{ReadInside, FieldsInside, Ready, OperandsFit, core_at, Did};
 
-use access::AccessTest;
+use access::Fault;
 use control::Board;
 use group::Group;
 use plan::{Compute, Elementwise, Read, Transfer};
@@ -55,21 +54,14 @@ pub fn set_at(registers: &[u8], vlenb: usize, masked: bool, reg: usize, i: usize
 fn compute(registers: &mut [u8], vlenb: usize, e: Elementwise, k: Compute, i: usize) -> bool
     requires { Ready (length registers.old) vlenb e i × OperandsFit vlenb registers.old e k i }
     ensures { (memory x : List ℕ) (c : Control) → Did vlenb (computing vlenb registers.old e k i)
-        (core_at registers.old memory x c) Granted (core_at registers.new memory x (saturating result c)) }
+        (core_at registers.old memory x c) (Ok tt) (core_at registers.new memory x (saturating result c)) }
 {
-    let vs2 = e.vs2;
-    let vs1 = e.vs1;
-    let vd = e.vd;
-    let v0 = e.v0;
-    let dest = e.dest;
-    let op = k.op;
-    let vxrm = k.vxrm;
-    let a = value(registers, vlenb, vs2, i);
-    let b = value(registers, vlenb, vs1, i);
-    let d = value(registers, vlenb, vd, i);
-    let c = value(registers, vlenb, v0, i);
-    let r = alu::element(op, k.sew, vxrm, a, b, d, c);
-    layout::write_element(registers, vlenb, dest.reg, dest.eew, i, r.value);
+    let a = value(registers, vlenb, e.vs2, i);
+    let b = value(registers, vlenb, e.vs1, i);
+    let d = value(registers, vlenb, e.vd, i);
+    let c = value(registers, vlenb, e.v0, i);
+    let r = alu::element(k.op, k.sew, k.vxrm, a, b, d, c);
+    layout::write_element(registers, vlenb, e.dest.reg, e.dest.eew, i, r.value);
     r.saturates
 }
 
@@ -85,7 +77,7 @@ pub fn compute_element(
         × (OperandsFit board.vlenb registers.old e k i × (e.action ≡ Act.Compute k)) }
     ensures { (rights memory x : List ℕ) (c : Control) → Did board.vlenb
         (effect_of board rights (core_at registers.old memory x c) e i)
-        (core_at registers.old memory x c) Granted (core_at registers.new memory x (saturating result c)) }
+        (core_at registers.old memory x c) (Ok tt) (core_at registers.new memory x (saturating result c)) }
 {
     let vlenb = board.vlenb as usize;
     if !active(registers, vlenb, e.masked, i) {
@@ -100,10 +92,9 @@ pub fn compute_element(
 pub fn address(t: Transfer, i: u64, offset: u64) -> u64
     ensures { result ≡ element_address t i offset }
 {
-    std::num::wrapping_add_u64(
-        std::num::wrapping_add_u64(t.base, width::mul64(i, t.stride)),
-        offset,
-    )
+    t.base
+        .wrapping_add(i.wrapping_mul(t.stride))
+        .wrapping_add(offset)
 }
 
 // Element i of the group that begins at the register reg, stored to memory from index a on or loaded from there.
@@ -155,15 +146,12 @@ fn move_fields(
         (core_at registers.old memory.old x c) }
 {
     let step = group::registers(dest);
-    let last = dest.nf as u64;
     let mut reg = dest.reg;
     let mut field = a;
-    let mut k: u64 = 0;
-    while k <= last {
+    for _ in 0..=dest.nf {
         move_field(registers, memory, vlenb, store, reg, dest.eew, n, i, field);
         reg += step;
         field += n;
-        k += 1;
     }
 }
 
@@ -171,58 +159,50 @@ fn move_fields(
 fn transfer(
     registers: &mut [u8],
     memory: &mut [u8],
-    rights: &[u8],
+    rights: &[u8; 256],
     vlenb: usize,
     store: bool,
     dest: Group,
     n: u64,
     i: usize,
     a: u64,
-) -> AccessTest
+) -> Result<(), Fault>
     requires { FieldsInside (length registers.old) vlenb dest i
         × ((dest.reg + span_of dest ≤ 32)
-        × ((length rights.now ≡ 256) × ((length memory.old ≤ 65536) × T (byte_size n)))) }
+        × ((length memory.old ≤ 65536) × T (byte_size n))) }
     ensures { (x : List ℕ) (c : Control) → Did vlenb
         (transferring vlenb rights.now (core_at registers.old memory.old x c) store dest n i a)
         (core_at registers.old memory.old x c) result (core_at registers.new memory.new x c) }
 {
-    let check = access::segment(rights, memory.len(), store, a, n, dest.nf);
-    match check {
-        AccessTest::Faulted(_) => check,
-        AccessTest::Granted => {
-            move_fields(
-                registers, memory, vlenb, store, dest, n as usize, i, a as usize,
-            );
-            check
-        }
-    }
+    access::segment(rights, memory.len(), store, a, n, dest.nf)?;
+    move_fields(
+        registers, memory, vlenb, store, dest, n as usize, i, a as usize,
+    );
+    Ok(())
 }
 
 // Element i of a load or a store, from the state as it is: granted, or its fault.
 pub fn transfer_element(
     registers: &mut [u8],
     memory: &mut [u8],
-    rights: &[u8],
+    rights: &[u8; 256],
     board: Board,
     e: Elementwise,
     t: Transfer,
     i: usize,
-) -> AccessTest
+) -> Result<(), Fault>
     requires { Ready (length registers.old) board.vlenb e i
-        × ((length rights.now ≡ 256)
-        × ((length memory.old ≤ 65536) × (T (byte_size t.bytes) × (e.action ≡ Act.Transfer t)))) }
+        × ((length memory.old ≤ 65536) × (T (byte_size t.bytes) × (e.action ≡ Act.Transfer t))) }
     ensures { (x : List ℕ) (c : Control) → Did board.vlenb
         (effect_of board rights.now (core_at registers.old memory.old x c) e i)
         (core_at registers.old memory.old x c) result (core_at registers.new memory.new x c) }
 {
     let vlenb = board.vlenb as usize;
-    let vs2 = e.vs2;
-    let dest = e.dest;
     if !active(registers, vlenb, e.masked, i) {
-        return AccessTest::Granted;
+        return Ok(());
     }
-    let a = address(t, i as u64, value(registers, vlenb, vs2, i));
+    let a = address(t, i as u64, value(registers, vlenb, e.vs2, i));
     transfer(
-        registers, memory, rights, vlenb, t.store, dest, t.bytes, i, a,
+        registers, memory, rights, vlenb, t.store, e.dest, t.bytes, i, a,
     )
 }

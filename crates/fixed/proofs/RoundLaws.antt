@@ -3,24 +3,21 @@ use mathlib.Core.Path.{◌≡◌, refl, sym, ap, ap₂, ◌∙◌, subst⁻¹, s
 use mathlib.Core.Bool.{Bool, true, false, cond, not, ◌&&◌, ◌||◌}
 use Prim.Native.Nat.{ℕ, zero, suc, ◌+◌, ◌-◌, ◌*◌, ◌/◌, ◌%◌, ◌<◌, ◌≤◌, ◌^◌}
 use native.Mathlib.Omega.{arith}
-use native.Mathlib.Nat.{mod-lt, div-one, add-zero, mod-eq_of_lt, mul-le-mul_left, div-mul-le_self, div-lt_iff_lt-mul, two-pow-succ}
+use native.Mathlib.Nat.{mod-lt, div-one, add-zero, mul-le-mul_left, div-mul-le_self, div-lt_iff_lt-mul, two-pow-succ}
 use lib.IntN.{ℤ, pos, negsuc, ◌+ℤ◌, +ℤ_idr}
 use lib.Signed.{shr_z, mag}
 use lib.Dec.{ltb, eqb}
-use lib.Pow.{pow_pos, pow_mono, pow-lt}
+use lib.Pow.{pow_pos, pow_mono}
 use mir.Syntax.{w64}
-use mir.Val.{Fits, SFits, to_z, of_z}
+use mir.Val.{Fits, SFits, to_z, of_z, bool_byte}
 use mir.Facts.{to_z-of_z, to_z_pos}
 use borrow.Author.Tests.{eq-eqb, ne_eqb}
 use Rattle.width.specs.Width.{wrap}
+use Rattle.width.proofs.FlagLaws.{byte-is}
 use Rattle.width.proofs.SignedLaws.{wrap-lt, shr-back}
 use Rattle.fixed.specs.declared.Vxrm.{Vxrm}
 use Rattle.fixed.specs.declared.Vxrm.TheVariants.{Rnu, Rne, Rdn, Rod}
 use Rattle.fixed.specs.Round.{increment, roundoff_unsigned, roundoff_signed}
-
--- the machine's 1 << d
-pub unit-is : (d : ℕ) → d < 64 → (1 * 2 ^ d) % 2 ^ 64 ≡ 2 ^ d
-unit-is d h = mod-eq_of_lt (omega (arith, pow-lt h)) ∙ omega arith
 
 pub unit-pos : (u d : ℕ) → u ≡ 2 ^ d → 0 < u
 unit-pos u d h = omega (arith, pow_pos d)
@@ -55,17 +52,9 @@ module _ (rm : Vxrm) (d last lost u : ℕ) (some : d ≡ 0 → ⊥) (u-is : u �
   unfolding increment
   rdn r = rw (positive, r)
 
-  pub rod-none : rm ≡ Rod → last ≡ 0 → lost ≡ 0 → 0 ≡ increment rm d last lost
+  pub rod : (r : ℕ) → r ≡ bool_byte (eqb last 0 && not (eqb lost 0)) → rm ≡ Rod → r ≡ increment rm d last lost
   unfolding increment
-  rod-none r l k = rw (positive, r, l, k)
-
-  pub rod-some : rm ≡ Rod → last ≡ 0 → (lost ≡ 0 → ⊥) → 1 ≡ increment rm d last lost
-  unfolding increment
-  rod-some r l k = rw (positive, r, l, ne_eqb lost 0 k)
-
-  pub rod-odd : rm ≡ Rod → (last ≡ 0 → ⊥) → 0 ≡ increment rm d last lost
-  unfolding increment
-  rod-odd r l = rw (positive, r, ne_eqb last 0 l)
+  rod r e m = e ∙ byte-is (eqb last 0 && not (eqb lost 0)) ∙ rw (positive, m)
 
 -- ---- the increment is 0 or 1
 

@@ -156,14 +156,7 @@ module _ (w m a b s : ℕ) (some : 1 ≤ w) (ones : m + 1 ≡ 2 ^ w) (la : a < 2
   unfolding vssub
   difference-within f g = within difference (λ p q. f p (omega (arith, half some))) (λ p q. g p (omega (arith, half some)))
 
--- an operand lies in one half only
-pub not-high : (x h s : ℕ) → x ≤ h → h < x → h < s
-not-high x h s p q = omega arith
-
-pub not_low : (x h s : ℕ) → x ≤ h → h < x → s ≤ h
-not_low x h s p q = omega arith
-
 -- the ways through the code
-pub ruleset sums = (sum_over, sum-under, sum-within, not-high, not_low)
+pub ruleset sums = (sum_over, sum-under, sum-within)
 
-pub ruleset differences = (difference-over, difference-under, difference-within, not-high, not_low)
+pub ruleset differences = (difference-over, difference-under, difference-within)

@@ -1,4 +1,5 @@
 -- An element of a legal plan does not see a change that its footprint leaves out: what it does is the same, and it writes before or after.
+use Rattle.std.specs.Prelude.{Result, Ok, Err, ⊤}
 use Prim.Native.Nat.{ℕ, zero, suc, ◌+◌, ◌≤◌, ◌<◌}
 use mathlib.Core.Path.{◌≡◌, refl, ap, ap₂, ◌∙◌, subst}
 use mathlib.Core.Logic.{◌⊎◌, inl, inr, ⊎_elim}
@@ -17,8 +18,6 @@ use Rattle.layout.proofs.BytesLaws.{bytes-set, with_bytes-set}
 use Rattle.group.specs.declared.Group.{Group}
 use Rattle.group.specs.Group.{nfields, field_group}
 use Rattle.access.specs.declared.Fault.{Fault}
-use Rattle.access.specs.declared.AccessTest.{AccessTest}
-use Rattle.access.specs.declared.AccessTest.TheVariants.{Granted, Faulted}
 use Rattle.access.specs.Access.{field_address, fields_access}
 use Rattle.plan.specs.declared.Read.{Read}
 use Rattle.plan.specs.declared.Read.TheVariants as R
@@ -193,9 +192,9 @@ module _ (b : Board) (c : Change) (r : List ℕ) (e : Elementwise) (i : ℕ) (k 
   WritesKept (fault f) = Unit {0}
   WritesKept (write l) = (s : Core) → put_all vlenb l (core_with c s) ≡ core_with c (put_all vlenb l s)
 
-  granted-kept : (v : AccessTest) (o : Effect Fault (List Write)) → WritesKept o → WritesKept (if_granted v o)
-  granted-kept Granted o h = h
-  granted-kept (Faulted f) o h = tt
+  granted-kept : (v : Result ⊤ Fault) (o : Effect Fault (List Write)) → WritesKept o → WritesKept (if_granted v o)
+  granted-kept (Ok tt) o h = h
+  granted-kept (Err f) o h = tt
 
   acting-writes : (s : Core) (act : Action) → ActionSpared vlenb c s.registers e i act → WritesKept (acting_of b r s e i act)
   unfolding acting_of

@@ -1,58 +1,40 @@
--- Digits: the value of one, and one digit more.
+-- Digits: a test of each, and one digit more.
 use mathlib.Core.Path.{◌≡◌, refl, sym, ap, ap₂, ◌∙◌, subst}
 use mathlib.Core.Bool.{Bool, true, ◌&&◌}
 use mathlib.Core.List.{List}
-use Prim.Native.Nat.{ℕ, ◌+◌, ◌-◌, ◌*◌, ◌≤◌, ◌<◌, ◌^◌}
+use Rattle.std.specs.List.{list_all, range_with_len}
+use Rattle.std.proofs.Math.Bool.{and_assoc, and-true}
+use Rattle.std.proofs.Math.Nat.{add-zero, zero-add}
+use Prim.Native.Nat.{ℕ, zero, suc, ◌+◌, ◌*◌, ◌≤◌, ◌<◌, ◌^◌}
 use native.Mathlib.Omega.{arith}
 use native.Mathlib.Numerals.{add-one}
 use native.Mathlib.Nat.{pow-le-pow_right, zero-lt-suc}
-use lib.ListN.{length, get_or, get_or-eq_default}
+use lib.ListN.{get_or}
 use lib.Pow.{pow-add}
-use borrow.Author.Tests.{le-leb, lt-leb}
 use mir.Syntax.{w64}
 use mir.Val.{Fits}
 use mir.Facts.{Fits-le}
 use Rattle.hexadecimal.specs.Hexadecimal.{digit_of, all_at, number_at}
 
--- past the end
-pub no_byte : (s : List ℕ) (at : ℕ) → length s ≤ at → 0 ≡ get_or s at 0
-no_byte s at h = sym (get_or-eq_default s 0 h)
-
--- ---- the value of a byte, by where it lies
-
-pub decimal : (b : ℕ) → 48 ≤ b → b < 58 → b - 48 ≡ digit_of b
-unfolding digit_of
-decimal b p q = rw (le-leb 48 b p, le-leb b 57 (omega arith))
-
-pub letter : (b : ℕ) → 97 ≤ b → b < 103 → b - 87 ≡ digit_of b
-unfolding digit_of
-letter b p q = rw (le-leb 48 b (omega arith), lt-leb b 57 (omega arith), le-leb 97 b p, le-leb b 102 (omega arith))
-
-pub below : (b : ℕ) → b < 48 → 0 ≡ digit_of b
-unfolding digit_of
-below b p = rw (lt-leb 48 b p, lt-leb 97 b (omega arith))
-
-pub between : (b : ℕ) → 58 ≤ b → b < 97 → 0 ≡ digit_of b
-unfolding digit_of
-between b p q = rw (le-leb 48 b (omega arith), lt-leb b 57 p, lt-leb 97 b q)
-
-pub above : (b : ℕ) → 103 ≤ b → 0 ≡ digit_of b
-unfolding digit_of
-above b p = rw (le-leb 48 b (omega arith), lt-leb b 57 (omega arith), le-leb 97 b (omega arith), lt-leb b 102 p)
-
-pub ruleset digit-ways = (decimal, letter, below, between, above)
-
 -- ---- none, and one more
 
--- bytes that pass a test
-pub all_none : (test : ℕ → Bool) (s : List ℕ) (at : ℕ) → true ≡ all_at test s at 0
-unfolding all_at
-all_none test s at = refl
+-- a test of the numbers from a on: the last after the others
+all_more : (f : ℕ → Bool) (a n : ℕ) → list_all f (range_with_len a (suc n)) ≡ (list_all f (range_with_len a n) && f (a + n))
+all_more f a zero = rw (add-zero, and-true)
+all_more f a (suc n) =
+    let e : a + 1 + n ≡ a + suc n = omega arith in
+    rw (all_more f (a + 1) n, e, ← and_assoc)
 
-pub all_more : (test : ℕ → Bool) (s : List ℕ) (at i b : ℕ) (all r : Bool) → all ≡ all_at test s at i → r ≡ test b → b ≡ get_or s (at + i) 0
-    → (all && r) ≡ all_at test s at (i + 1)
+-- so a definition that takes the last after the others says what a test of each says
+pub each_of : (f g : ℕ → Bool) → g 0 ≡ true → ((n : ℕ) → g (suc n) ≡ (g n && f n)) → (n : ℕ) → list_all f (range_with_len 0 n) ≡ g n
+each_of f g none more zero = sym none
+each_of f g none more (suc n) = all_more f 0 n ∙ (rw (zero-add, each_of f g none more n) (sym (more n)))
+
+-- the bytes that pass a test
+pub each_at : (test : ℕ → Bool) (s : List ℕ) (at n : ℕ)
+    → list_all (λ i. test (get_or s (at + i) 0)) (range_with_len 0 n) ≡ all_at test s at n
 unfolding all_at
-all_more test s at i b all r p h q = rw (add-one i) (ap₂ ◌&&◌ p (h ∙ ap test q))
+each_at test s at = each_of (λ i. test (get_or s (at + i) 0)) (all_at test s at) refl (λ n. refl)
 
 pub no_number : (s : List ℕ) (at : ℕ) → 0 ≡ number_at s at 0
 unfolding number_at

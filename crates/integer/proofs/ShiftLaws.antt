@@ -1,18 +1,13 @@
 -- Shifts at a width.
 use mathlib.Core.Path.{◌≡◌, ap, ◌∙◌}
 use Prim.Native.Nat.{ℕ, ◌%◌, ◌^◌, ◌<◌}
-use native.Mathlib.Omega.{arith}
-use lib.IntN.{ℤ, pos}
+use lib.IntN.{ℤ}
 use lib.Signed.{mag, shr_z}
 use mir.Syntax.{w64}
-use mir.Val.{SFits, to_z, of_z}
+use mir.Val.{to_z, of_z}
 use Rattle.width.specs.Width.{Width, signed, wrap}
-use Rattle.width.proofs.LowBits.{low-low, amount-lt}
+use Rattle.width.proofs.LowBits.{low-low}
 use Rattle.width.proofs.SignedLaws.{in-range, shr-back}
-
--- an amount below a width as an i64
-pub amount-fits : (b w : ℕ) → Width w → SFits w64 (pos (b % w))
-amount-fits b w h = record { sfits = omega (arith, amount-lt b w h) }
 
 -- to the left: the low w bits of the low 64
 pub left_is : (w n r : ℕ) → r ≡ n % 2 ^ 64 % 2 ^ w → Width w → r ≡ n % 2 ^ w

@@ -61,3 +61,5 @@ sum-cut w n d x r e f = e ∙ ap (λ (y : ℕ). (y + d) % 2 ^ w) f ∙ mod-add-m
 
 pub difference-cut : (w a n x r : ℕ) → r ≡ wrap w (sub_ℕ a x) → x ≡ n % 2 ^ w → r ≡ wrap w (sub_ℕ a n)
 difference-cut w a n x r e f = let s = div-add-mod' n (2 ^ w) in e ∙ wrap-cong w a x a n 0 (n / 2 ^ w) (omega arith)
+
+pub ruleset cuts = (sum-cut, difference-cut)

@@ -1,106 +1,108 @@
 // The element operations of sections 12.1 to 12.9, 12.15 and 12.16 of document 000. `a` is the element of vs2, `b` that of vs1 (or the
-// scalar or immediate in its place), `c` the mask bit of v0.
+// scalar or immediate in its place), `c` the mask bit of v0. Each is an operation that the standard names and alu calls: two that differ in
+// a width or a sign alone (vadd and vwaddu, vminu and vmin) stay two.
 
 #![tactic(auto)]
 
 ghost use Rattle.std.specs.Prelude.{◌≡◌, ◌*◌, ◌/◌, ◌%◌, ◌<◌, ◌≤◌, ◌^◌, cond};
 ghost use Rattle.std.specs.Int.Signed.{lt_z, shr_z};
-ghost use Rattle.width.specs.Width.{Width, signed, wrap};
+ghost use Rattle.width.specs.Width.{signed, wrap};
 ghost use Rattle.integer.specs.Integer.{vadd, vsub, vrsub, vwaddu, vwsubu, vwadd, vwsub, vwadd-w, vwsub-w, vzext, vsext};
 ghost use Rattle.integer.specs.Integer.{vadc, vmadc, vsbc, vmsbc, vand, vor, vxor, vsll, vsrl, vsra, vnsrl, vnsra};
 ghost use Rattle.integer.specs.Integer.{vmseq, vmsne, vmsltu, vmslt, vmsleu, vmsle, vmsgtu, vmsgt};
 ghost use Rattle.integer.specs.Integer.{vminu, vmin, vmaxu, vmax, vmerge, vmv};
 
-use width::flagged;
+use width::Eew;
 
 pub mod mask;
 
 // ---- 12.1
 
 // vadd: the sum, wrapped.
-pub fn add(sew: u64, a: u64, b: u64) -> u64
-    requires { Width sew }
-    ensures { result ≡ vadd sew a b }
+pub fn add(sew: Eew, a: u64, b: u64) -> u64
+    ensures { result ≡ vadd sew.bits a b }
 {
-    width::add(sew, a, b)
+    sew.add(a, b)
 }
 
 // vsub: a - b, wrapped.
-pub fn sub(sew: u64, a: u64, b: u64) -> u64
-    requires { Width sew }
-    ensures { result ≡ vsub sew a b }
+pub fn sub(sew: Eew, a: u64, b: u64) -> u64
+    ensures { result ≡ vsub sew.bits a b }
 {
-    width::sub(sew, a, b)
+    sew.sub(a, b)
 }
 
 // vrsub: b - a, wrapped.
-pub fn rsub(sew: u64, a: u64, b: u64) -> u64
-    requires { Width sew }
-    ensures { result ≡ vrsub sew a b }
+pub fn rsub(sew: Eew, a: u64, b: u64) -> u64
+    ensures { result ≡ vrsub sew.bits a b }
 {
-    width::sub(sew, b, a)
+    sew.sub(b, a)
 }
 
 // ---- 12.2
 
 // vwaddu, and its .w form: the sum of 2 * sew bits.
-pub fn waddu(sew: u64, a: u64, b: u64) -> u64
-    requires { Width (2 * sew) }
-    ensures { result ≡ vwaddu sew a b }
+pub fn waddu(sew: Eew, a: u64, b: u64) -> u64
+    requires { 2 * sew.bits ≤ 64 }
+    ensures { result ≡ vwaddu sew.bits a b }
 {
-    width::add(2 * sew, a, b)
+    sew.doubled().add(a, b)
 }
 
 // vwsubu, and its .w form: a - b at 2 * sew bits.
-pub fn wsubu(sew: u64, a: u64, b: u64) -> u64
-    requires { Width (2 * sew) }
-    ensures { result ≡ vwsubu sew a b }
+pub fn wsubu(sew: Eew, a: u64, b: u64) -> u64
+    requires { 2 * sew.bits ≤ 64 }
+    ensures { result ≡ vwsubu sew.bits a b }
 {
-    width::sub(2 * sew, a, b)
+    sew.doubled().sub(a, b)
 }
 
-// The `from` bits of x sign-extended to `to` bits.
-pub fn extend(from: u64, to: u64, x: u64) -> u64
-    requires { Width from × (Width to × (x < 2 ^ from)) }
-    ensures { result ≡ wrap to (signed from x) }
+// x, of the width `from`, sign-extended to the width `to`.
+pub fn extend(from: Eew, to: Eew, x: u64) -> u64
+    requires { x < 2 ^ from.bits }
+    ensures { result ≡ wrap to.bits (signed from.bits x) }
 {
-    width::from_signed(to, width::to_signed(from, x))
+    to.from_signed(from.to_signed(x))
 }
 
 // vwadd: the sum of both sign-extended to 2 * sew bits.
-pub fn wadd(sew: u64, a: u64, b: u64) -> u64
-    requires { Width (2 * sew) × ((a < 2 ^ sew) × (b < 2 ^ sew)) }
-    ensures { result ≡ vwadd sew a b }
+#[tactic(auto, using(crate::proofs::SumLaws::widening))]
+pub fn wadd(sew: Eew, a: u64, b: u64) -> u64
+    requires { (2 * sew.bits ≤ 64) × ((a < 2 ^ sew.bits) × (b < 2 ^ sew.bits)) }
+    ensures { result ≡ vwadd sew.bits a b }
 {
-    let wide = 2 * sew;
-    width::add(wide, extend(sew, wide, a), extend(sew, wide, b))
+    let wide = sew.doubled();
+    wide.add(extend(sew, wide, a), extend(sew, wide, b))
 }
 
 // vwsub: a - b, both sign-extended to 2 * sew bits.
-pub fn wsub(sew: u64, a: u64, b: u64) -> u64
-    requires { Width (2 * sew) × ((a < 2 ^ sew) × (b < 2 ^ sew)) }
-    ensures { result ≡ vwsub sew a b }
+#[tactic(auto, using(crate::proofs::SumLaws::widening))]
+pub fn wsub(sew: Eew, a: u64, b: u64) -> u64
+    requires { (2 * sew.bits ≤ 64) × ((a < 2 ^ sew.bits) × (b < 2 ^ sew.bits)) }
+    ensures { result ≡ vwsub sew.bits a b }
 {
-    let wide = 2 * sew;
-    width::sub(wide, extend(sew, wide, a), extend(sew, wide, b))
+    let wide = sew.doubled();
+    wide.sub(extend(sew, wide, a), extend(sew, wide, b))
 }
 
 // vwadd.w: the sum, where a has 2 * sew bits already.
-pub fn wadd_w(sew: u64, a: u64, b: u64) -> u64
-    requires { Width (2 * sew) × ((a < 2 ^ (2 * sew)) × (b < 2 ^ sew)) }
-    ensures { result ≡ vwadd-w sew a b }
+#[tactic(auto, using(crate::proofs::SumLaws::widening))]
+pub fn wadd_w(sew: Eew, a: u64, b: u64) -> u64
+    requires { (2 * sew.bits ≤ 64) × ((a < 2 ^ (2 * sew.bits)) × (b < 2 ^ sew.bits)) }
+    ensures { result ≡ vwadd-w sew.bits a b }
 {
-    let wide = 2 * sew;
-    width::add(wide, a, extend(sew, wide, b))
+    let wide = sew.doubled();
+    wide.add(a, extend(sew, wide, b))
 }
 
 // vwsub.w: a - b, where a has 2 * sew bits already.
-pub fn wsub_w(sew: u64, a: u64, b: u64) -> u64
-    requires { Width (2 * sew) × ((a < 2 ^ (2 * sew)) × (b < 2 ^ sew)) }
-    ensures { result ≡ vwsub-w sew a b }
+#[tactic(auto, using(crate::proofs::SumLaws::widening))]
+pub fn wsub_w(sew: Eew, a: u64, b: u64) -> u64
+    requires { (2 * sew.bits ≤ 64) × ((a < 2 ^ (2 * sew.bits)) × (b < 2 ^ sew.bits)) }
+    ensures { result ≡ vwsub-w sew.bits a b }
 {
-    let wide = 2 * sew;
-    width::sub(wide, a, extend(sew, wide, b))
+    let wide = sew.doubled();
+    wide.sub(a, extend(sew, wide, b))
 }
 
 // ---- 12.3
@@ -113,37 +115,37 @@ pub fn zext(f: u64, sew: u64, a: u64) -> u64
 }
 
 // vsext: the sew / f bits of a sign-extended.
-pub fn sext(f: u64, sew: u64, a: u64) -> u64
-    requires { (1 ≤ f) × (Width sew × (Width (sew / f) × (a < 2 ^ (sew / f)))) }
-    ensures { result ≡ vsext f sew a }
+pub fn sext(f: u64, sew: Eew, a: u64) -> u64
+    requires { (1 ≤ f) × ((1 ≤ sew.bits / f) × (a < 2 ^ (sew.bits / f))) }
+    ensures { result ≡ vsext f sew.bits a }
 {
-    extend(sew / f, sew, a)
+    extend(Eew { bits: sew.bits / f }, sew, a)
 }
 
 // ---- 12.4
 
 // vadc: the sum with the carry-in c, wrapped.
-pub fn adc(sew: u64, a: u64, b: u64, c: u64) -> u64
-    requires { Width sew }
-    ensures { result ≡ vadc sew a b c }
+#[tactic(auto, using(crate::proofs::SumLaws::cuts))]
+pub fn adc(sew: Eew, a: u64, b: u64, c: u64) -> u64
+    ensures { result ≡ vadc sew.bits a b c }
 {
-    width::add(sew, width::add(sew, a, b), c)
+    sew.add(sew.add(a, b), c)
 }
 
 // vmadc: a + b + c carries out where what a leaves to all ones is less than b + c.
-pub fn madc(sew: u64, a: u64, b: u64, c: u64) -> u64
-    requires { Width sew × ((a < 2 ^ sew) × ((b < 2 ^ sew) × (c < 2))) }
-    ensures { result ≡ vmadc sew a b c }
+pub fn madc(sew: Eew, a: u64, b: u64, c: u64) -> u64
+    requires { (a < 2 ^ sew.bits) × ((b < 2 ^ sew.bits) × (c < 2)) }
+    ensures { result ≡ vmadc sew.bits a b c }
 {
-    msbc(sew, width::ones(sew) - a, b, c)
+    msbc(sew.bits, sew.ones() - a, b, c)
 }
 
 // vsbc: a - b less the borrow-in c, wrapped.
-pub fn sbc(sew: u64, a: u64, b: u64, c: u64) -> u64
-    requires { Width sew }
-    ensures { result ≡ vsbc sew a b c }
+#[tactic(auto, using(crate::proofs::SumLaws::cuts))]
+pub fn sbc(sew: Eew, a: u64, b: u64, c: u64) -> u64
+    ensures { result ≡ vsbc sew.bits a b c }
 {
-    width::sub(sew, a, width::add(sew, b, c))
+    sew.sub(a, sew.add(b, c))
 }
 
 // vmsbc: a < b + c with no sum, since b + 1 may not fit.
@@ -151,10 +153,10 @@ pub fn msbc(sew: u64, a: u64, b: u64, c: u64) -> u64
     requires { c < 2 }
     ensures { result ≡ vmsbc sew a b c }
 {
-    if c == 1 {
-        msleu(sew, a, b)
-    } else {
+    if c == 0 {
         msltu(sew, a, b)
+    } else {
+        msleu(sew, a, b)
     }
 }
 
@@ -184,34 +186,33 @@ pub fn xor(sew: u64, a: u64, b: u64) -> u64
 // ---- 12.6
 
 // The v bits of a, signed, shifted right; of that the low w bits.
-fn shift_signed(v: u64, w: u64, a: u64, b: u64) -> u64
-    requires { Width v × (Width w × (a < 2 ^ v)) }
-    ensures { result ≡ wrap w (shr_z (signed v a) (2 ^ (b % v))) }
+fn shift_signed(v: Eew, w: Eew, a: u64, b: u64) -> u64
+    requires { a < 2 ^ v.bits }
+    ensures { result ≡ wrap w.bits (shr_z (signed v.bits a) (2 ^ (b % v.bits))) }
 {
-    let x = width::to_signed(v, a);
-    width::from_signed(w, x >> (b % v))
+    let x = v.to_signed(a);
+    w.from_signed(x >> (b % v.bits))
 }
 
 // vsll: by the low lg2(sew) bits of b.
-pub fn sll(sew: u64, a: u64, b: u64) -> u64
-    requires { Width sew }
-    ensures { result ≡ vsll sew a b }
+#[tactic(auto, using(crate::proofs::ShiftLaws::left_is))]
+pub fn sll(sew: Eew, a: u64, b: u64) -> u64
+    ensures { result ≡ vsll sew.bits a b }
 {
-    width::low(sew, a << (b % sew))
+    sew.low(a << (b % sew.bits))
 }
 
 // vsrl: the same, zeros shifted in.
-pub fn srl(sew: u64, a: u64, b: u64) -> u64
-    requires { Width sew }
-    ensures { result ≡ vsrl sew a b }
+pub fn srl(sew: Eew, a: u64, b: u64) -> u64
+    ensures { result ≡ vsrl sew.bits a b }
 {
-    a >> (b % sew)
+    a >> (b % sew.bits)
 }
 
 // vsra: the same, the sign shifted in.
-pub fn sra(sew: u64, a: u64, b: u64) -> u64
-    requires { Width sew × (a < 2 ^ sew) }
-    ensures { result ≡ vsra sew a b }
+pub fn sra(sew: Eew, a: u64, b: u64) -> u64
+    requires { a < 2 ^ sew.bits }
+    ensures { result ≡ vsra sew.bits a b }
 {
     shift_signed(sew, sew, a, b)
 }
@@ -219,80 +220,73 @@ pub fn sra(sew: u64, a: u64, b: u64) -> u64
 // ---- 12.7
 
 // vnsrl: a has 2 * sew bits, shifted by the low lg2(2 * sew) bits of b.
-pub fn nsrl(sew: u64, a: u64, b: u64) -> u64
-    requires { Width (2 * sew) }
-    ensures { result ≡ vnsrl sew a b }
+pub fn nsrl(sew: Eew, a: u64, b: u64) -> u64
+    requires { 2 * sew.bits ≤ 64 }
+    ensures { result ≡ vnsrl sew.bits a b }
 {
-    width::low(sew, a >> (b % (2 * sew)))
+    sew.low(a >> (b % (2 * sew.bits)))
 }
 
 // vnsra: the same, the sign shifted in.
-pub fn nsra(sew: u64, a: u64, b: u64) -> u64
-    requires { Width (2 * sew) × (a < 2 ^ (2 * sew)) }
-    ensures { result ≡ vnsra sew a b }
+pub fn nsra(sew: Eew, a: u64, b: u64) -> u64
+    requires { (2 * sew.bits ≤ 64) × (a < 2 ^ (2 * sew.bits)) }
+    ensures { result ≡ vnsra sew.bits a b }
 {
-    shift_signed(2 * sew, sew, a, b)
+    shift_signed(sew.doubled(), sew, a, b)
 }
 
 // ---- 12.8
 
-// One of two numbers, by a test.
-fn choose(test: bool, x: u64, y: u64) -> u64
-    ensures { result ≡ cond test x y }
+// Whether a is less than b, both signed.
+fn less(sew: Eew, a: u64, b: u64) -> bool
+    requires { (a < 2 ^ sew.bits) × (b < 2 ^ sew.bits) }
+    ensures { result ≡ lt_z (signed sew.bits a) (signed sew.bits b) }
 {
-    if test { x } else { y }
-}
-
-// One of two numbers, by whether a is less than b, both signed.
-fn choose_less(sew: u64, a: u64, b: u64, x: u64, y: u64) -> u64
-    requires { Width sew × ((a < 2 ^ sew) × (b < 2 ^ sew)) }
-    ensures { result ≡ cond (lt_z (signed sew a) (signed sew b)) x y }
-{
-    choose(width::to_signed(sew, a) < width::to_signed(sew, b), x, y)
+    sew.to_signed(a) < sew.to_signed(b)
 }
 
 // vmseq: 1 where a is b.
 pub fn mseq(sew: u64, a: u64, b: u64) -> u64
     ensures { result ≡ vmseq sew a b }
 {
-    flagged(a == b)
+    u64::from(a == b)
 }
 
 // vmsne: 1 where it is not.
 pub fn msne(sew: u64, a: u64, b: u64) -> u64
     ensures { result ≡ vmsne sew a b }
 {
-    flagged(a != b)
+    u64::from(a != b)
 }
 
 // vmsltu: 1 where a is less, both unsigned.
 pub fn msltu(sew: u64, a: u64, b: u64) -> u64
     ensures { result ≡ vmsltu sew a b }
 {
-    flagged(a < b)
+    u64::from(a < b)
 }
 
 // vmslt: 1 where a is less, both signed.
-pub fn mslt(sew: u64, a: u64, b: u64) -> u64
-    requires { Width sew × ((a < 2 ^ sew) × (b < 2 ^ sew)) }
-    ensures { result ≡ vmslt sew a b }
+pub fn mslt(sew: Eew, a: u64, b: u64) -> u64
+    requires { (a < 2 ^ sew.bits) × (b < 2 ^ sew.bits) }
+    ensures { result ≡ vmslt sew.bits a b }
 {
-    choose_less(sew, a, b, 1, 0)
+    u64::from(less(sew, a, b))
 }
 
 // vmsleu: 1 where a is less or equal, both unsigned.
 pub fn msleu(sew: u64, a: u64, b: u64) -> u64
     ensures { result ≡ vmsleu sew a b }
 {
-    flagged(a <= b)
+    u64::from(a <= b)
 }
 
 // vmsle: 1 where a is less or equal, both signed.
-pub fn msle(sew: u64, a: u64, b: u64) -> u64
-    requires { Width sew × ((a < 2 ^ sew) × (b < 2 ^ sew)) }
-    ensures { result ≡ vmsle sew a b }
+pub fn msle(sew: Eew, a: u64, b: u64) -> u64
+    requires { (a < 2 ^ sew.bits) × (b < 2 ^ sew.bits) }
+    ensures { result ≡ vmsle sew.bits a b }
 {
-    choose_less(sew, b, a, 0, 1)
+    u64::from(!less(sew, b, a))
 }
 
 // vmsgtu: 1 where b is less, both unsigned.
@@ -303,9 +297,9 @@ pub fn msgtu(sew: u64, a: u64, b: u64) -> u64
 }
 
 // vmsgt: 1 where b is less, both signed.
-pub fn msgt(sew: u64, a: u64, b: u64) -> u64
-    requires { Width sew × ((a < 2 ^ sew) × (b < 2 ^ sew)) }
-    ensures { result ≡ vmsgt sew a b }
+pub fn msgt(sew: Eew, a: u64, b: u64) -> u64
+    requires { (a < 2 ^ sew.bits) × (b < 2 ^ sew.bits) }
+    ensures { result ≡ vmsgt sew.bits a b }
 {
     mslt(sew, b, a)
 }
@@ -316,30 +310,30 @@ pub fn msgt(sew: u64, a: u64, b: u64) -> u64
 pub fn minu(sew: u64, a: u64, b: u64) -> u64
     ensures { result ≡ vminu sew a b }
 {
-    if a < b { a } else { b }
+    a.min(b)
 }
 
 // vmin: the smaller, both signed.
-pub fn min(sew: u64, a: u64, b: u64) -> u64
-    requires { Width sew × ((a < 2 ^ sew) × (b < 2 ^ sew)) }
-    ensures { result ≡ vmin sew a b }
+pub fn min(sew: Eew, a: u64, b: u64) -> u64
+    requires { (a < 2 ^ sew.bits) × (b < 2 ^ sew.bits) }
+    ensures { result ≡ vmin sew.bits a b }
 {
-    choose_less(sew, a, b, a, b)
+    if less(sew, a, b) { a } else { b }
 }
 
 // vmaxu: the larger, both unsigned.
 pub fn maxu(sew: u64, a: u64, b: u64) -> u64
     ensures { result ≡ vmaxu sew a b }
 {
-    if a < b { b } else { a }
+    a.max(b)
 }
 
 // vmax: the larger, both signed.
-pub fn max(sew: u64, a: u64, b: u64) -> u64
-    requires { Width sew × ((a < 2 ^ sew) × (b < 2 ^ sew)) }
-    ensures { result ≡ vmax sew a b }
+pub fn max(sew: Eew, a: u64, b: u64) -> u64
+    requires { (a < 2 ^ sew.bits) × (b < 2 ^ sew.bits) }
+    ensures { result ≡ vmax sew.bits a b }
 {
-    choose_less(sew, a, b, b, a)
+    if less(sew, a, b) { b } else { a }
 }
 
 // ---- 12.15, 12.16
@@ -348,7 +342,7 @@ pub fn max(sew: u64, a: u64, b: u64) -> u64
 pub fn merge(sew: u64, a: u64, b: u64, c: u64) -> u64
     ensures { result ≡ vmerge sew a b c }
 {
-    choose(c == 1, b, a)
+    if c == 1 { b } else { a }
 }
 
 // vmv: b.

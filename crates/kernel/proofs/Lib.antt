@@ -1,2 +1,2 @@
 pub mod KernelLaws
-pub mod NumberLaws
+pub mod PlanLaws

@@ -1,5 +1,5 @@
--- For contracts of inner functions, not to be believed: an operation and its operands by numbers, and what a kernel relies on and leaves.
-use Rattle.std.specs.Prelude.{ℕ, ◌+◌, ◌*◌, ◌≤◌, ◌<◌, ◌≡◌, Bool, true, false, cond, List, T, eqb}
+-- For contracts of inner functions, not to be believed: what a kernel relies on and leaves.
+use Rattle.std.specs.Prelude.{ℕ, ◌+◌, ◌*◌, ◌≤◌, ◌<◌, ◌≡◌, true, false, List, T}
 use Rattle.fixed.specs.declared.Element.{Element}
 use Rattle.fixed.specs.declared.Vxrm.TheVariants.{Rnu}
 use Rattle.operation.specs.declared.Op.{Op}
@@ -18,43 +18,54 @@ use Rattle.plan.specs.declared.Elementwise.{Elementwise}
 use Rattle.machine.specs.Effect.{value_of}
 use Rattle.execute.specs.Step.{Ready, core_at, Ran}
 use Rattle.kernel.specs.declared.Stretch.{Stretch}
-use Rattle.kernel.specs.declared.Operand.{Operand}
+use Rattle.kernel.specs.declared.Kernelled.{Kernelled}
+use Rattle.kernel.specs.declared.Kernelled.TheVariants as K
+use Rattle.kernel.specs.declared.Source.{Source}
+use Rattle.kernel.specs.declared.Source.TheVariants as S
 
--- ---- numbers
+-- ---- operations and operands
 
 -- the operations that have a kernel
-abbrev pub operation_at : ℕ → Op
-operation_at op =
-    cond (eqb op 0) Vadd
-    (cond (eqb op 1) Vsub
-    (cond (eqb op 2) Vand
-    (cond (eqb op 3) Vor
-    (cond (eqb op 4) Vxor
-    (cond (eqb op 5) Vmul Vmacc)))))
+abbrev pub operation_at : Kernelled → Op
+operation_at K.Add = Vadd
+operation_at K.Sub = Vsub
+operation_at K.And = Vand
+operation_at K.Or = Vor
+operation_at K.Xor = Vxor
+operation_at K.Mul = Vmul
+operation_at K.Macc = Vmacc
 
-abbrev pub operand_of : Read → Operand
-operand_of (R.Constant x) = record { scalar = true; x = x; reg = 0 }
-operand_of (R.Element g) = record { scalar = false; x = 0; reg = g.reg }
-operand_of (R.Bit reg) = record { scalar = false; x = 0; reg = reg }
+-- where in the register file the elements of an operand begin
+abbrev pub start_of : ℕ → Read → ℕ
+start_of vlenb (R.Constant x) = 0
+start_of vlenb (R.Element g) = vlenb * g.reg
+start_of vlenb (R.Bit reg) = vlenb * reg
 
--- the second operand of an element that lies so many bytes from the first of its group
-abbrev pub second_at : List ℕ → ℕ → Bool → ℕ → ℕ → ℕ → ℕ
-second_at file vs1 scalar x n at = cond scalar x (bytes_at file (vs1 + at) n)
+abbrev pub source_of : ℕ → Read → Source
+source_of vlenb (R.Constant x) = S.Scalar x
+source_of vlenb (R.Element g) = S.Elements (vlenb * g.reg)
+source_of vlenb (R.Bit reg) = S.Elements (vlenb * reg)
 
--- what an operation gives, which goes by no rounding mode and no bit of v0
-abbrev pub result_at : ℕ → ℕ → ℕ → ℕ → ℕ → Element
-result_at op n a b d = element_of (8 * n) Rnu a b d 0 (operation_at op)
+-- of the second operand: the element of n bytes that lies so many bytes from its first, or the scalar in its place
+abbrev pub second_at : List ℕ → Source → ℕ → ℕ → ℕ
+second_at file (S.Scalar x) n at = x
+second_at file (S.Elements vs1) n at = bytes_at file (vs1 + at) n
+
+-- such an element lies inside a file of so many bytes
+abbrev pub SourceInside : ℕ → Source → ℕ → ℕ → Type 0
+SourceInside size (S.Scalar x) n at = Unit {0}
+SourceInside size (S.Elements vs1) n at = vs1 + at + n ≤ size
 
 -- ---- a stretch
 
-module _ (s : Stretch) (op : ℕ) (scalar : Bool) (x n : ℕ) where
-  -- element i, by the file as it is
+module _ (s : Stretch) (op : Op) (n : ℕ) where
+  -- element i, by the file as it is; it goes by no rounding mode and no bit of v0
   abbrev pub lane_of : List ℕ → ℕ → Element
   lane_of file i =
-      result_at op n (bytes_at file (s.vs2 + i * n) n) (second_at file s.vs1 scalar x n (i * n)) (bytes_at file (s.vd + i * n) n)
+      element_of (8 * n) Rnu (bytes_at file (s.vs2 + i * n) n) (second_at file s.vs1 n (i * n)) (bytes_at file (s.vd + i * n) n) 0 op
 
-  -- these numbers say what a plan does
-  pub record Numbered (vlenb : ℕ) (e : Elementwise) : Type 0 where
+  -- stretch, operation and size say what a plan does
+  pub record Described (vlenb : ℕ) (e : Elementwise) : Type 0 where
     pub compute : Compute
     pub action : e.action ≡ A.Compute compute
     pub unmasked : e.masked ≡ false
@@ -65,18 +76,18 @@ module _ (s : Stretch) (op : ℕ) (scalar : Bool) (x n : ℕ) where
         (value_of vlenb file e.vd i) (value_of vlenb file e.v0 i) compute.op
         ≡ lane_of file i
 
-  -- so many elements of every plan of which they say it were carried out
+  -- so many elements of every plan of which they say so were carried out
   pub record Swept (count : ℕ) (file file' : List ℕ) : Type 0 where
-    pub ran : (b : Board) (e : Elementwise) → Numbered b.vlenb e → (rights memory scalars : List ℕ) (c : Control)
+    pub ran : (b : Board) (e : Elementwise) → Described b.vlenb e → (rights memory scalars : List ℕ) (c : Control)
         → Ran b rights e s.from (core_at file memory scalars c) count (core_at file' memory scalars c)
 
 -- all elements lie inside a file of so many bytes
-pub record Placed (size : ℕ) (s : Stretch) (scalar : Bool) (n : ℕ) : Type 0 where
+pub record Placed (size : ℕ) (s : Stretch) (n : ℕ) : Type 0 where
   pub bytes : T (byte_size n)
   pub ordered : s.from ≤ s.end
   pub vd : (i : ℕ) → s.from ≤ i → i < s.end → s.vd + i * n + n ≤ size
   pub vs2 : (i : ℕ) → s.from ≤ i → i < s.end → s.vs2 + i * n + n ≤ size
-  pub vs1 : scalar ≡ false → (i : ℕ) → s.from ≤ i → i < s.end → s.vs1 + i * n + n ≤ size
+  pub vs1 : (i : ℕ) → s.from ≤ i → i < s.end → SourceInside size s.vs1 n (i * n)
 
 -- ---- a plan
 
@@ -101,4 +112,4 @@ pub record SingleWidth (e : Elementwise) (k : Compute) : Type 0 where
 pub record Computable (size vlenb : ℕ) (e : Elementwise) (k : Compute) (from end : ℕ) : Type 0 where
   pub action : e.action ≡ A.Compute k
   pub ready : (i : ℕ) → from ≤ i → i < end → Ready size vlenb e i
-  pub single : (op : ℕ) → from < end → k.op ≡ operation_at op → SingleWidth e k
+  pub single : (o : Kernelled) → from < end → k.op ≡ operation_at o → SingleWidth e k

@@ -1,174 +1,236 @@
-// Loops over the elements of a stretch that the compiler makes vector code of: seven operations, without a mask.
-//
-// The compiler puts a function in place of a call where what the call's literals leave of the function is short. It sees the literals that
-// go by value, which a struct and an enum do not: so the operation, the kind of the second operand and the size of an element are a
-// number, a bool and a number. `by_operation`, `by_operand` and `by_size` make each of them a literal in turn, and each pair of calls of
-// one function differs in two arguments or is short: calls that differ in one would be made one again.
+// Loops over the elements of a stretch that the compiler makes vector code of: seven operations, without a mask. There is one loop for each
+// operation and size of an element; the second operand's source stays the same in it, so the compiler asks for that before the loop.
 
 #![tactic(auto)]
 
-ghost use Rattle.std.specs.Prelude.{◌≡◌, List, ℕ, ◌+◌, ◌-◌, ◌≤◌, ◌<◌, false, length, T};
+ghost use Rattle.std.specs.Prelude.{◌≡◌, List, ℕ, ◌-◌, ◌^◌, ◌<◌, length, T};
 ghost use Rattle.fixed.specs.Round.{exact};
+ghost use Rattle.fixed.specs.declared.Vxrm.TheVariants.{Rnu};
+ghost use Rattle.operation.specs.declared.Op.{Op};
+ghost use Rattle.operation.specs.declared.Op.TheVariants.{Vadd, Vsub, Vand, Vor, Vxor, Vmul, Vmacc};
+ghost use Rattle.alu.specs.Element.{element_of};
 ghost use Rattle.control.specs.declared.Control.{Control};
-ghost use Rattle.layout.specs.Layout.{bytes_at, byte_size};
+ghost use Rattle.layout.specs.Layout.{byte_size};
 ghost use Rattle.execute.specs.Step.{core_at, Attempted};
-ghost use Rattle.kernel.specs.Kernel.{operation_at, operand_of, second_at, result_at, Swept, Placed, Computable};
+ghost use Rattle.kernel.specs.declared.Kernelled.{Kernelled};
+ghost use Rattle.kernel.specs.Kernel.{operation_at, start_of, source_of, SourceInside, second_at, Swept, Placed, Computable};
 
 use control::Board;
 use operation::Op;
 use plan::{Compute, Elementwise, Read};
+use width::Eew;
+
+// The second operand: a scalar, or the elements from an index of the register file on.
+#[derive(Clone, Copy)]
+enum Source {
+    Scalar(u64),
+    Elements(usize),
+}
 
 // A stretch of the elements from `from` to `end`, and where in the register file element 0 of each operand lies.
 #[derive(Clone, Copy)]
-pub struct Stretch {
-    pub vd: usize,
-    pub vs2: usize,
-    pub vs1: usize,
-    pub from: usize,
-    pub end: usize,
+struct Stretch {
+    vd: usize,
+    vs2: usize,
+    vs1: Source,
+    from: usize,
+    end: usize,
 }
 
-// An operand by numbers: a scalar, or the elements from a register on.
+// ---- the operations
+
+// Those that have a kernel.
 #[derive(Clone, Copy)]
-struct Operand {
-    scalar: bool,
-    x: u64,
-    reg: usize,
+enum Kernelled {
+    Add,
+    Sub,
+    And,
+    Or,
+    Xor,
+    Mul,
+    Macc,
 }
 
-// The number of an operation that has no kernel.
-const OTHERS: u64 = 7;
+// One of them, as a type: a loop is compiled for each.
+trait Operation {
+    ghost op: { Op };
 
-// ---- an element
+    // What it gives of an element a of vs2, b of vs1 and d of vd.
+    fn apply(sew: Eew, a: u64, b: u64, d: u64) -> u64
+        ensures { exact result ≡ element_of sew.bits Rnu a b d 0 op };
+}
 
-// The element of vs1 at so many bytes from its first, or the scalar in its place.
-fn second(registers: &[u8], vs1: usize, scalar: bool, x: u64, n: usize, at: usize) -> u64
-    requires { T (byte_size n) × (scalar ≡ false → vs1 + at + n ≤ length registers.now) }
-    ensures { result ≡ second_at registers.now vs1 scalar x n at }
-{
-    if scalar {
-        return x;
+struct Add;
+
+struct Sub;
+
+struct And;
+
+struct Or;
+
+struct Xor;
+
+struct Mul;
+
+struct Macc;
+
+impl Operation for Add {
+    ghost op = { Vadd };
+
+    fn apply(sew: Eew, a: u64, b: u64, _d: u64) -> u64 {
+        integer::add(sew, a, b)
     }
-    layout::read_bytes(registers, vs1 + at, n)
 }
 
-// What an operation gives of an element a of vs2 and b of vs1, where that of vd lies at the index vd.
-fn result(registers: &[u8], op: u64, n: usize, a: u64, b: u64, vd: usize) -> u64
-    requires { T (byte_size n) × (vd + n ≤ length registers.now) }
-    ensures { exact result ≡ result_at op n a b (bytes_at registers.now vd n) }
-{
-    let sew = 8 * (n as u64);
-    match op {
-        0 => integer::add(sew, a, b),
-        1 => integer::sub(sew, a, b),
-        2 => integer::and(sew, a, b),
-        3 => integer::or(sew, a, b),
-        4 => integer::xor(sew, a, b),
-        5 => multiply::mul(sew, a, b),
-        _ => multiply::macc(sew, a, b, layout::read_bytes(registers, vd, n)),
+impl Operation for Sub {
+    ghost op = { Vsub };
+
+    fn apply(sew: Eew, a: u64, b: u64, _d: u64) -> u64 {
+        integer::sub(sew, a, b)
     }
 }
 
-// ---- the loop, and its literals
+impl Operation for And {
+    ghost op = { Vand };
 
-// The elements of a stretch, of n bytes each, one after the other in place.
-fn kernel(registers: &mut [u8], s: Stretch, op: u64, scalar: bool, x: u64, n: usize)
-    requires { Placed (length registers.old) s scalar n }
-    ensures { Swept s op scalar x n (s.end - s.from) registers.old registers.new }
+    fn apply(sew: Eew, a: u64, b: u64, _d: u64) -> u64 {
+        integer::and(sew.bits, a, b)
+    }
+}
+
+impl Operation for Or {
+    ghost op = { Vor };
+
+    fn apply(sew: Eew, a: u64, b: u64, _d: u64) -> u64 {
+        integer::or(sew.bits, a, b)
+    }
+}
+
+impl Operation for Xor {
+    ghost op = { Vxor };
+
+    fn apply(sew: Eew, a: u64, b: u64, _d: u64) -> u64 {
+        integer::xor(sew.bits, a, b)
+    }
+}
+
+impl Operation for Mul {
+    ghost op = { Vmul };
+
+    fn apply(sew: Eew, a: u64, b: u64, _d: u64) -> u64 {
+        multiply::mul(sew, a, b)
+    }
+}
+
+impl Operation for Macc {
+    ghost op = { Vmacc };
+
+    fn apply(sew: Eew, a: u64, b: u64, d: u64) -> u64 {
+        multiply::macc(sew, a, b, d)
+    }
+}
+
+// ---- the loop
+
+// The element of the second operand at so many bytes from its first, or the scalar in its place.
+fn second(registers: &[u8], source: Source, n: usize, at: usize) -> u64
+    requires { T (byte_size n) × SourceInside (length registers.now) source n at }
+    ensures { result ≡ second_at registers.now source n at }
+{
+    match source {
+        Source::Scalar(x) => x,
+        Source::Elements(vs1) => layout::read_bytes(registers, vs1 + at, n),
+    }
+}
+
+// The elements of a stretch, of N bytes each, one after the other in place.
+fn kernel<O: Operation, const N: usize>(registers: &mut [u8], s: Stretch)
+    requires { Placed (length registers.old) s N }
+    ensures { Swept s O.op N (s.end - s.from) registers.old registers.new }
 {
     let vd = s.vd;
     let vs2 = s.vs2;
     let vs1 = s.vs1;
-    let end = s.end;
-    let mut i = s.from;
-    while i < end {
-        let at = i * n;
-        let a = layout::read_bytes(registers, vs2 + at, n);
-        let b = second(registers, vs1, scalar, x, n, at);
-        let r = result(registers, op, n, a, b, vd + at);
-        layout::write_bytes(registers, vd + at, n, r);
-        i += 1;
+    let sew = Eew {
+        bits: 8 * (N as u64),
+    };
+    for i in s.from..s.end {
+        let at = i * N;
+        let a = layout::read_bytes(registers, vs2 + at, N);
+        let b = second(registers, vs1, N, at);
+        let d = layout::read_bytes(registers, vd + at, N);
+        let r = O::apply(sew, a, b, d);
+        layout::write_bytes(registers, vd + at, N, r);
     }
 }
 
-// A literal size.
-fn by_size(registers: &mut [u8], s: Stretch, op: u64, scalar: bool, x: u64, n: usize)
-    requires { Placed (length registers.old) s scalar n }
-    ensures { Swept s op scalar x n (s.end - s.from) registers.old registers.new }
+// The elements of a stretch, of n bytes each.
+fn by_size<O: Operation>(registers: &mut [u8], s: Stretch, n: usize)
+    requires { Placed (length registers.old) s n }
+    ensures { Swept s O.op n (s.end - s.from) registers.old registers.new }
 {
     match n {
-        1 => kernel(registers, s, op, scalar, x, 1),
-        2 => kernel(registers, s, op, scalar, x, 2),
-        4 => kernel(registers, s, op, scalar, x, 4),
-        _ => kernel(registers, s, op, scalar, x, 8),
+        1 => kernel::<O, 1>(registers, s),
+        2 => kernel::<O, 2>(registers, s),
+        4 => kernel::<O, 4>(registers, s),
+        _ => kernel::<O, 8>(registers, s),
     }
 }
 
-// A literal kind of the second operand.
-fn by_operand(registers: &mut [u8], s: Stretch, op: u64, scalar: bool, x: u64, n: usize)
-    requires { Placed (length registers.old) s scalar n }
-    ensures { Swept s op scalar x n (s.end - s.from) registers.old registers.new }
+// The elements of a stretch, of n bytes each, by the operation that o names.
+fn by_operation(registers: &mut [u8], s: Stretch, o: Kernelled, n: usize)
+    requires { Placed (length registers.old) s n }
+    ensures { Swept s (operation_at o) n (s.end - s.from) registers.old registers.new }
 {
-    if scalar {
-        by_size(registers, s, op, true, x, n);
-    } else {
-        by_size(registers, s, op, false, 0, n);
+    match o {
+        Kernelled::Add => by_size::<Add>(registers, s, n),
+        Kernelled::Sub => by_size::<Sub>(registers, s, n),
+        Kernelled::And => by_size::<And>(registers, s, n),
+        Kernelled::Or => by_size::<Or>(registers, s, n),
+        Kernelled::Xor => by_size::<Xor>(registers, s, n),
+        Kernelled::Mul => by_size::<Mul>(registers, s, n),
+        Kernelled::Macc => by_size::<Macc>(registers, s, n),
     }
 }
 
-// A literal operation.
-fn by_operation(registers: &mut [u8], s: Stretch, op: u64, scalar: bool, x: u64, n: usize)
-    requires { Placed (length registers.old) s scalar n }
-    ensures { Swept s op scalar x n (s.end - s.from) registers.old registers.new }
-{
-    match op {
-        0 => by_operand(registers, s, 0, scalar, x, n),
-        1 => by_operand(registers, s, 1, scalar, x, n),
-        2 => by_operand(registers, s, 2, scalar, x, n),
-        3 => by_operand(registers, s, 3, scalar, x, n),
-        4 => by_operand(registers, s, 4, scalar, x, n),
-        5 => by_operand(registers, s, 5, scalar, x, n),
-        _ => by_operand(registers, s, 6, scalar, x, n),
-    }
-}
+// ---- a plan
 
-// ---- from a plan to numbers
-
-// The number of an operation. A match of so few arms that none counts as rare to the compiler comes after it.
-fn number_of(op: Op) -> u64
-    ensures { result < 7 → op ≡ operation_at result }
+// The kernel of an operation. `by_operation` does not match on the operation itself: of so many arms each would count as rare to the
+// compiler, and it puts no function in place of a call that is rare.
+fn kernel_of(op: Op) -> Option<Kernelled>
+    ensures { (o : Kernelled) → result ≡ Some o → op ≡ operation_at o }
 {
     match op {
-        Op::Vadd => 0,
-        Op::Vsub => 1,
-        Op::Vand => 2,
-        Op::Vor => 3,
-        Op::Vxor => 4,
-        Op::Vmul => 5,
-        Op::Vmacc => 6,
-        _ => OTHERS,
+        Op::Vadd => Some(Kernelled::Add),
+        Op::Vsub => Some(Kernelled::Sub),
+        Op::Vand => Some(Kernelled::And),
+        Op::Vor => Some(Kernelled::Or),
+        Op::Vxor => Some(Kernelled::Xor),
+        Op::Vmul => Some(Kernelled::Mul),
+        Op::Vmacc => Some(Kernelled::Macc),
+        _ => None,
     }
 }
 
-fn operand_of(read: Read) -> Operand
-    ensures { result ≡ operand_of read }
+// Where in the register file the elements of an operand begin.
+fn start_of(read: Read, vlenb: usize) -> usize
+    requires { start_of vlenb read < 2 ^ 64 }
+    ensures { result ≡ start_of vlenb read }
 {
     match read {
-        Read::Constant(x) => Operand {
-            scalar: true,
-            x,
-            reg: 0,
-        },
-        Read::Element(g) => Operand {
-            scalar: false,
-            x: 0,
-            reg: g.reg,
-        },
-        Read::Bit(reg) => Operand {
-            scalar: false,
-            x: 0,
-            reg,
-        },
+        Read::Constant(_) => 0,
+        Read::Element(g) => vlenb * g.reg,
+        Read::Bit(reg) => vlenb * reg,
+    }
+}
+
+fn source_of(read: Read, vlenb: usize) -> Source
+    requires { start_of vlenb read < 2 ^ 64 }
+    ensures { result ≡ source_of vlenb read }
+{
+    match read {
+        Read::Constant(x) => Source::Scalar(x),
+        Read::Element(_) | Read::Bit(_) => Source::Elements(start_of(read, vlenb)),
     }
 }
 
@@ -185,31 +247,21 @@ pub fn computed(
     ensures { (rights memory x : List ℕ) (c : Control) → Attempted board rights e from (end - from)
         (core_at registers.old memory x c) result (core_at registers.new memory x c) }
 {
-    let vlenb = board.vlenb as usize;
-    let op = k.op;
-    let number = number_of(op);
-    if !(!e.masked & (number < OTHERS) & (from < end)) {
+    if e.masked | (end <= from) {
         return false;
     }
+    let Some(o) = kernel_of(k.op) else {
+        return false;
+    };
+    let vlenb = board.vlenb as usize;
     let dest = e.dest;
-    let vs2 = e.vs2;
-    let vs1 = e.vs1;
-    let first = operand_of(vs2);
-    let second = operand_of(vs1);
     let s = Stretch {
         vd: vlenb * dest.reg,
-        vs2: vlenb * first.reg,
-        vs1: vlenb * second.reg,
+        vs2: start_of(e.vs2, vlenb),
+        vs1: source_of(e.vs1, vlenb),
         from,
         end,
     };
-    by_operation(
-        registers,
-        s,
-        number,
-        second.scalar,
-        second.x,
-        (k.sew / 8) as usize,
-    );
+    by_operation(registers, s, o, (k.sew / 8) as usize);
     true
 }

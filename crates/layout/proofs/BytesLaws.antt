@@ -1,13 +1,13 @@
--- Numbers of several bytes: read and stored by halves, and kept by other stores.
-use mathlib.Core.Path.{◌≡◌, refl, sym, ap, ap₂, ◌∙◌}
+-- Numbers of several bytes: read and stored byte by byte, and kept by other stores.
+use mathlib.Core.Path.{◌≡◌, refl, ap, ap₂, ◌∙◌}
 use mathlib.Core.Logic.{◌⊎◌, inl, inr, ⊎_elim}
 use mathlib.Core.List.{List}
-use Prim.Native.Nat.{ℕ, zero, suc, ◌+◌, ◌*◌, ◌/◌, ◌%◌, ◌^◌, ◌≤◌, ◌<◌}
+use Prim.Native.Nat.{ℕ, zero, suc, ◌+◌, ◌-◌, ◌*◌, ◌/◌, ◌%◌, ◌^◌, ◌≤◌, ◌<◌}
 use native.Mathlib.Omega.{arith}
 use native.Mathlib.Nat.{zero-add, add-zero, suc-add, add-suc, add_comm, mul-suc, div-one}
 use lib.ListN.{length, get_or, set, length-set}
 use lib.Seq.{get_or-set_other, set_comm}
-use lib.Pow.{pow-add, shr-shr}
+use lib.Pow.{pow-add, shr-shr, pow_mono}
 use mir.Syntax.{w8, w64}
 use mir.Val.{Fits}
 use mir.Facts.{Fits-widen}
@@ -28,22 +28,39 @@ with_bytes-split l a (suc m) n x =
     rw (suc-add m n, add-suc a m, ← suc-add a m, mul-suc 8 m, add_comm (8 * m) 8, ← shr-shr x 8 (8 * m))
     (with_bytes-split (set l a (x % 256)) (suc a) m n (x / 256))
 
-pub read-halves : (m : ℕ) (l : List ℕ) (a x y : ℕ) → x ≡ bytes_at l a m → y ≡ bytes_at l (a + m) m → x + 2 ^ (8 * m) * y ≡ bytes_at l a (m + m)
-read-halves m l a x y p q = ap₂ (λ (u v : ℕ). u + 2 ^ (8 * m) * v) p q ∙ sym (bytes-split l a m m)
+-- ---- a byte more, of n, where those from k on are read, or those below k are stored
 
-pub write-halves : (m : ℕ) (l l' l'' : List ℕ) (a x : ℕ) → l' ≡ with_bytes l a m x → l'' ≡ with_bytes l' (a + m) m (x / 2 ^ (8 * m))
-    → l'' ≡ with_bytes l a (m + m) x
-write-halves m l l' l'' a x p q = q ∙ ap (λ (k : List ℕ). with_bytes k (a + m) m (x / 2 ^ (8 * m))) p ∙ sym (with_bytes-split l a m m x)
-
--- ---- one byte, and a number of bytes n that is known to be m
-
-pub read_one : (l : List ℕ) (a : ℕ) → get_or l a 0 ≡ bytes_at l a 1
+pub read-none : (l : List ℕ) (a n : ℕ) → 0 ≡ bytes_at l (a + n) (n - n)
 unfolding bytes_at
-read_one l a = omega arith
+read-none l a n = let e : n - n ≡ 0 = omega arith in rw e
 
-pub write-one : (l : List ℕ) (a x : ℕ) → set l a (x % 256) ≡ with_bytes l a 1 x
+pub read-more : (l : List ℕ) (a n k x y : ℕ) → 1 ≤ k → k ≤ n → x ≡ bytes_at l (a + k) (n - k) → y ≡ get_or l (a + (k - 1)) 0
+    → 256 * x + y ≡ bytes_at l (a + (k - 1)) (n - (k - 1))
+unfolding bytes_at
+read-more l a n k x y h i p q =
+    let e : n - (k - 1) ≡ suc (n - k) = omega arith in
+    let f : a + k ≡ suc (a + (k - 1)) = omega arith in
+    rw e (let r : x ≡ bytes_at l (suc (a + (k - 1))) (n - k) = p ∙ ap (λ (m : ℕ). bytes_at l m (n - k)) f in omega arith)
+
+pub read-all : (l : List ℕ) (a n k x : ℕ) → k ≡ 0 → x ≡ bytes_at l (a + k) (n - k) → x ≡ bytes_at l a n
+read-all l a n k x e p =
+    let f : a + k ≡ a = omega arith in
+    let g : n - k ≡ n = omega arith in
+    p ∙ ap₂ (bytes_at l) f g
+
+pub write-more : (l : List ℕ) (a n k x : ℕ) → k < n
+    → with_bytes (set l (a + k) (x % 256)) (a + (k + 1)) (n - (k + 1)) (x / 256) ≡ with_bytes l (a + k) (n - k) x
 unfolding with_bytes
-write-one l a x = refl
+write-more l a n k x h =
+    let e : n - k ≡ suc (n - (k + 1)) = omega arith in
+    let f : a + (k + 1) ≡ suc (a + k) = omega arith in
+    rw (e, f)
+
+pub write-all : (l m : List ℕ) (a n k x : ℕ) → n ≤ k → with_bytes l (a + k) (n - k) x ≡ m → l ≡ m
+unfolding with_bytes
+write-all l m a n k x h p = let e : n - k ≡ 0 = omega arith in rw e at p
+
+-- ---- a number of bytes n that is known to be m
 
 pub read-sized : (l : List ℕ) (a n m r : ℕ) → n ≡ m → r ≡ bytes_at l a m → r ≡ bytes_at l a n
 read-sized l a n m r e p = rw e p
@@ -110,3 +127,9 @@ pub bytes_lt : (l : List ℕ) (a n : ℕ) → Bytes l → bytes_at l a n < 2 ^ (
 unfolding bytes_at
 bytes_lt l a zero h = omega arith
 bytes_lt l a (suc n) h = rw (mul-suc 8 n, pow-add 2 (8 * n) 8) (omega (arith, bytes_lt l (suc a) n h, h a))
+
+-- a number of fewer than eight bytes, and one byte more
+pub bytes-room : (l : List ℕ) (a m x y : ℕ) → Bytes l → m ≤ 7 → x ≡ bytes_at l a m → y < 256 → Fits w64 (256 * x + y)
+bytes-room l a m x y h i p q =
+    let e : 8 * m ≤ 56 = omega arith in
+    record { fits = omega (arith, bytes_lt l a m h, pow_mono e) }

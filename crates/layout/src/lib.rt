@@ -5,34 +5,30 @@
 ghost use Rattle.std.specs.Prelude.{◌≡◌, ◌+◌, ◌*◌, ◌/◌, ◌^◌, ◌≤◌, ◌<◌, length, T};
 ghost use Rattle.layout.specs.Layout.{bytes_at, with_bytes, bit_at, with_bit_at, element_at, with_element, byte_size, Inside};
 
-// ---- bytes, two halves at a time
+// ---- bytes, as many as a constant says, so that the compiler makes one load or store of them
 
-fn read1(l: &[u8], a: usize) -> u64
-    requires { a + 1 ≤ length l.now }
-    ensures { (result ≡ bytes_at l.now a 1) × (result < 2 ^ 8) }
+// The number of N bytes, highest first.
+fn read<const N: usize>(l: &[u8], a: usize) -> u64
+    requires { (N ≤ 8) × (a + N ≤ length l.now) }
+    ensures { (result ≡ bytes_at l.now a N) × (result < 2 ^ (8 * N)) }
 {
-    l[a] as u64
+    let mut x: u64 = 0;
+    for k in (0..N).rev() {
+        x = 256 * x + u64::from(l[a + k]);
+    }
+    x
 }
 
-fn read2(l: &[u8], a: usize) -> u64
-    requires { a + 2 ≤ length l.now }
-    ensures { (result ≡ bytes_at l.now a 2) × (result < 2 ^ 16) }
+// The low N bytes of x, lowest first.
+fn write<const N: usize>(l: &mut [u8], a: usize, x: u64)
+    requires { a + N ≤ length l.old }
+    ensures { l.new ≡ with_bytes l.old a N x }
 {
-    read1(l, a) + 0x100 * read1(l, a + 1)
-}
-
-fn read4(l: &[u8], a: usize) -> u64
-    requires { a + 4 ≤ length l.now }
-    ensures { (result ≡ bytes_at l.now a 4) × (result < 2 ^ 32) }
-{
-    read2(l, a) + 0x1_0000 * read2(l, a + 2)
-}
-
-fn read8(l: &[u8], a: usize) -> u64
-    requires { a + 8 ≤ length l.now }
-    ensures { result ≡ bytes_at l.now a 8 }
-{
-    read4(l, a) + 0x1_0000_0000 * read4(l, a + 4)
+    let mut rest = x;
+    for k in 0..N {
+        l[a + k] = (rest % 256) as u8;
+        rest /= 256;
+    }
 }
 
 // The number of the n bytes from index a.
@@ -41,42 +37,11 @@ pub fn read_bytes(l: &[u8], a: usize, n: usize) -> u64
     ensures { (result ≡ bytes_at l.now a n) × (result < 2 ^ (8 * n)) }
 {
     match n {
-        1 => read1(l, a),
-        2 => read2(l, a),
-        4 => read4(l, a),
-        _ => read8(l, a),
+        1 => read::<1>(l, a),
+        2 => read::<2>(l, a),
+        4 => read::<4>(l, a),
+        _ => read::<8>(l, a),
     }
-}
-
-fn write1(l: &mut [u8], a: usize, x: u64)
-    requires { a + 1 ≤ length l.old }
-    ensures { l.new ≡ with_bytes l.old a 1 x }
-{
-    l[a] = (x % 256) as u8;
-}
-
-fn write2(l: &mut [u8], a: usize, x: u64)
-    requires { a + 2 ≤ length l.old }
-    ensures { l.new ≡ with_bytes l.old a 2 x }
-{
-    write1(l, a, x);
-    write1(l, a + 1, x / 0x100);
-}
-
-fn write4(l: &mut [u8], a: usize, x: u64)
-    requires { a + 4 ≤ length l.old }
-    ensures { l.new ≡ with_bytes l.old a 4 x }
-{
-    write2(l, a, x);
-    write2(l, a + 2, x / 0x1_0000);
-}
-
-fn write8(l: &mut [u8], a: usize, x: u64)
-    requires { a + 8 ≤ length l.old }
-    ensures { l.new ≡ with_bytes l.old a 8 x }
-{
-    write4(l, a, x);
-    write4(l, a + 4, x / 0x1_0000_0000);
 }
 
 // The low n bytes of x are stored from index a on.
@@ -85,10 +50,10 @@ pub fn write_bytes(l: &mut [u8], a: usize, n: usize, x: u64)
     ensures { l.new ≡ with_bytes l.old a n x }
 {
     match n {
-        1 => write1(l, a, x),
-        2 => write2(l, a, x),
-        4 => write4(l, a, x),
-        _ => write8(l, a, x),
+        1 => write::<1>(l, a, x),
+        2 => write::<2>(l, a, x),
+        4 => write::<4>(l, a, x),
+        _ => write::<8>(l, a, x),
     }
 }
 
@@ -125,7 +90,7 @@ pub fn read_element(file: &[u8], vlenb: usize, reg: usize, eew: usize, i: usize)
     let n = eew / 8;
     let at = vlenb * reg + i * n;
     if n == 1 {
-        return read1(file, at);
+        return read::<1>(file, at);
     }
     if eew == 1 {
         return read_bit(file, vlenb * reg, i);
@@ -141,7 +106,7 @@ pub fn write_element(file: &mut [u8], vlenb: usize, reg: usize, eew: usize, i: u
     let n = eew / 8;
     let at = vlenb * reg + i * n;
     if n == 1 {
-        write1(file, at, x);
+        write::<1>(file, at, x);
         return;
     }
     if eew == 1 {

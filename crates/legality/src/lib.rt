@@ -2,8 +2,7 @@
 
 #![tactic(auto)]
 
-ghost use Rattle.std.specs.Prelude.{◌≡◌, ◌≤◌, ◌<◌, ◌++◌, length};
-ghost use Rattle.control.specs.Board.{Valid};
+ghost use Rattle.std.specs.Prelude.{◌≡◌, ◌≤◌, ◌<◌, ◌++◌};
 ghost use Rattle.control.specs.Vtype.{sew_of};
 ghost use Rattle.decode.specs.Fields.{Fits};
 ghost use Rattle.plan.specs.Plan.{plan_of};
@@ -20,10 +19,9 @@ use plan::{Action, Elementwise, OneTurn, Packing, Plan, Read, Reduction, Sources
 
 // vill is clear, and vstart below 8 * VLEN / SEW.
 fn may_start(board: Board, control: Control) -> bool
-    requires { Valid board }
     ensures { result ≡ startable board control }
 {
-    (control.vtype != 0x8000_0000_0000_0000)
+    (control.vtype != Control::VILL)
         & (control.vstart < 64 * (board.vlenb as u64) / Control::sew(control.vtype))
 }
 
@@ -51,8 +49,7 @@ fn writes_registers(action: Action) -> bool
     ensures { result ≡ writes_registers action }
 {
     match action {
-        Action::Compute(_) => true,
-        Action::Permute(_) => true,
+        Action::Compute(_) | Action::Permute(_) => true,
         Action::Transfer(t) => !t.store,
     }
 }
@@ -60,15 +57,13 @@ fn writes_registers(action: Action) -> bool
 fn strict_op(op: PermutationOp) -> bool
     ensures { result ≡ strictly op }
 {
-    match op {
-        PermutationOp::Vid => false,
-        PermutationOp::Vslideup => true,
-        PermutationOp::Vslidedown => false,
-        PermutationOp::Vslide1up => true,
-        PermutationOp::Vslide1down => false,
-        PermutationOp::Vrgather => true,
-        PermutationOp::Vrgatherei16 => true,
-    }
+    matches!(
+        op,
+        PermutationOp::Vslideup
+            | PermutationOp::Vslide1up
+            | PermutationOp::Vrgather
+            | PermutationOp::Vrgatherei16
+    )
 }
 
 // Whether the destination overlaps no source at all.
@@ -76,23 +71,15 @@ fn is_strict(action: Action) -> bool
     ensures { result ≡ is_strict action }
 {
     match action {
-        Action::Compute(_) => false,
-        Action::Permute(p) => {
-            let op = p.op;
-            strict_op(op)
-        }
-        Action::Transfer(_) => false,
+        Action::Permute(p) => strict_op(p.op),
+        Action::Compute(_) | Action::Transfer(_) => false,
     }
 }
 
 fn is_bit(read: Read) -> bool
     ensures { result ≡ is_bit read }
 {
-    match read {
-        Read::Constant(_) => false,
-        Read::Element(_) => false,
-        Read::Bit(_) => true,
-    }
+    matches!(read, Read::Bit(_))
 }
 
 // Whether the operands and the destination are well placed and overlap only as they may.
@@ -120,17 +107,13 @@ fn is_there(action: Action) -> bool
     ensures { result ≡ is_there action }
 {
     match action {
-        Action::Compute(k) => {
-            let op = k.op;
-            k.sew <= operation::largest_sew(op)
-        }
-        Action::Permute(_) => true,
-        Action::Transfer(_) => true,
+        Action::Compute(k) => k.sew <= operation::largest_sew(k.op),
+        Action::Permute(_) | Action::Transfer(_) => true,
     }
 }
 
 fn elements_legal(board: Board, control: Control, e: Elementwise) -> bool
-    requires { Valid board × InRange e }
+    requires { InRange e }
     ensures { result ≡ elements_legal board control e }
 {
     let action = e.action;
@@ -141,13 +124,7 @@ fn elements_legal(board: Board, control: Control, e: Elementwise) -> bool
 fn writes_mask(op: MaskOp) -> bool
     ensures { result ≡ writes_mask op }
 {
-    match op {
-        MaskOp::Vcpop => false,
-        MaskOp::Vfirst => false,
-        MaskOp::Vmsbf => true,
-        MaskOp::Vmsof => true,
-        MaskOp::Vmsif => true,
-    }
+    matches!(op, MaskOp::Vmsbf | MaskOp::Vmsof | MaskOp::Vmsif)
 }
 
 // A mask that is written is neither the source nor the mask in v0.
@@ -181,7 +158,7 @@ fn packing_placed(elen: usize, p: Packing) -> bool
 }
 
 fn one_turn_legal(board: Board, control: Control, t: OneTurn) -> bool
-    requires { Valid board × OneTurnFits t }
+    requires { OneTurnFits t }
     ensures { result ≡ one_turn_legal board control t }
 {
     match t {
@@ -238,7 +215,7 @@ fn sources_fit(sources: Sources) -> bool
 
 // Whether a plan is legal, but for what its sources share.
 fn kind_legal(board: Board, control: Control, plan: Plan) -> bool
-    requires { Valid board × PlanFits plan }
+    requires { PlanFits plan }
     ensures { result ≡ kind_legal board control plan }
 {
     match plan {
@@ -250,7 +227,7 @@ fn kind_legal(board: Board, control: Control, plan: Plan) -> bool
 
 // Whether a plan is legal.
 fn legal(board: Board, control: Control, plan: Plan) -> bool
-    requires { Valid board × PlanFits plan }
+    requires { PlanFits plan }
     ensures { result ≡ legal_of board control plan }
 {
     if control.is_off() {
@@ -263,9 +240,8 @@ fn legal(board: Board, control: Control, plan: Plan) -> bool
 }
 
 // The plan of a decoded word where it is legal, and `Illegal` where not.
-pub fn checked(board: Board, x: &[u64], control: Control, instruction: Instruction) -> Plan
-    requires { Valid board
-        × ((length x.now ≡ 32) × ((sew_of control.vtype ≤ 64) × ((control.vl ≤ 128) × Fits instruction))) }
+pub fn checked(board: Board, x: &[u64; 32], control: Control, instruction: Instruction) -> Plan
+    requires { (sew_of control.vtype ≤ 64) × ((control.vl ≤ 128) × Fits instruction) }
     ensures { result ≡ checked_of board control (plan_of board x.now control instruction) }
 {
     let plan = plan::plan_of(board, x, control, instruction);

@@ -1,4 +1,5 @@
 -- Demands 1 and 3 of the customer, and the law of the number passed, hold of the definition of a turn.
+use Rattle.std.specs.Prelude.{Result, Ok, Err, ⊤}
 use Prim.Native.Nat.{ℕ, ◌+◌, ◌-◌, ◌^◌, ◌≤◌}
 use mathlib.Core.Path.{◌≡◌, refl, sym, ap, ◌∙◌, subst}
 use mathlib.Core.Logic.{◌⊎◌, inl, inr}
@@ -6,17 +7,14 @@ use mathlib.Core.Bool.{Bool, true, false, not, ◌&&◌}
 use mathlib.Core.List.{List, [], ◌∷◌}
 use mathlib.Core.Option.{Option, none, some}
 use native.Mathlib.Omega.{arith}
+use Rattle.std.specs.Prelude as rust
 use Rattle.laws.proofs.Apart.{both_left, both_right}
 use Rattle.laws.proofs.Chain.{either}
 use lib.Dec.{T}
 use Rattle.answer.specs.declared.Answer.{Answer}
 use Rattle.answer.specs.declared.Answer.TheVariants.{Finished, Illegal, NoGroup}
-use Rattle.answer.specs.declared.Verdict.{Verdict}
-use Rattle.answer.specs.declared.Verdict.TheVariants.{Accepted, Refused}
 use Rattle.control.specs.declared.Board.{Board}
 use Rattle.control.specs.declared.Control.{Control}
-use Rattle.control.specs.declared.Avl.{Avl}
-use Rattle.control.specs.declared.Avl.TheVariants.{To, Keep}
 use Rattle.control.specs.Board.{Valid}
 use Rattle.control.specs.Control.{dirty, with_vstart, with_vxsat, with_vs, set_of, keeps_of}
 use Rattle.control.specs.Vtype.{supported_of}
@@ -67,9 +65,9 @@ use Rattle.machine.proofs.Settled.{settled, status-unseen, marked-settled}
 abbrev refusal_only : Answer → Bool
 refusal_only a = changes_nothing a && not (is_trap a)
 
-data Refuses (P : Answer → Bool) : Verdict → Type 0 where
-  accepts : Refuses P Accepted
-  refuses : {a : Answer} → P a ≡ true → Refuses P (Refused a)
+data Refuses (P : Answer → Bool) : Result ⊤ Answer → Type 0 where
+  accepts : Refuses P (Ok tt)
+  refuses : {a : Answer} → P a ≡ true → Refuses P (Err a)
 
 board-refuses : (b : Board) (registers scalars memory : ℕ) (rights : List ℕ) (c : Control)
     → Refuses refusal_only (refusal_of b registers scalars memory rights c)
@@ -80,9 +78,9 @@ abbrev pub Rejecting : Option Answer → Type 0
 Rejecting none = Unit {0}
 Rejecting (some a) = changes_nothing a ≡ true
 
-rejecting-else : (v : Verdict) (o : Option Answer) → Refuses refusal_only v → Rejecting o → Rejecting (or_illegal v o)
-rejecting-else Accepted o h k = k
-rejecting-else (Refused a) o (refuses h) k = both_left (changes_nothing a) (not (is_trap a)) h
+rejecting-else : (v : Result ⊤ Answer) (o : Option Answer) → Refuses refusal_only v → Rejecting o → Rejecting (or_illegal v o)
+rejecting-else (Ok tt) o h k = k
+rejecting-else (Err a) o (refuses h) k = both_left (changes_nothing a) (not (is_trap a)) h
 
 pub rejection-rejects : (b : Board) (p : Plan) (rights : List ℕ) (s : Core) (v : ℕ) → Rejecting (rejection_at b p rights s v)
 unfolding rejection_at
@@ -186,7 +184,7 @@ module _ (b : Board) (p : Plan) where
       (λ c e. absurd (let z : ◌≡◌ {A = ℕ} 0 1 = cc in omega arith))
       (λ c e. (refl, refl))
 
-  turn-refused : (n : ℕ) (s : State) (a : Answer) → refusal_at b s.rights (core_of s) s.control.vstart ≡ Refused a
+  turn-refused : (n : ℕ) (s : State) (a : Answer) → refusal_at b s.rights (core_of s) s.control.vstart ≡ Err a
       → plan_turn b p n s ≡ untouched a s
   unfolding rejection_at
   turn-refused n s a h = ap (outcome_of b p s.rights) (turn-rejected J (turn_with s.rights n) (point_of s) a (rw h))
@@ -213,10 +211,10 @@ unfolding put_of
 put-vstart b (to_registers g i r) s h = h
 put-vstart b (to_memory a n x) s h = h
 
-set-vstart : (b : Board) (c : Control) (v : ℕ) (a : Avl) → (set_of b c v a).vstart ≡ 0
+set-vstart : (b : Board) (c : Control) (v : ℕ) (a : rust.Option ℕ) → (set_of b c v a).vstart ≡ 0
 unfolding set_of
-set-vstart b c v (To avl) = either (λ (c : Control). c.vstart ≡ 0) (supported_of b v) _ _ (λ t. refl) (λ t. refl)
-set-vstart b c v Keep = either (λ (c : Control). c.vstart ≡ 0) (supported_of b v && keeps_of b c v) _ _ (λ t. refl) (λ t. refl)
+set-vstart b c v (rust.Some avl) = either (λ (c : Control). c.vstart ≡ 0) (supported_of b v) _ _ (λ t. refl) (λ t. refl)
+set-vstart b c v rust.None = either (λ (c : Control). c.vstart ≡ 0) (supported_of b v && keeps_of b c v) _ _ (λ t. refl) (λ t. refl)
 
 mask-vstart : (vlenb vl : ℕ) (m : MaskInstruction) (s : Core) (o : MaskOp) → s.control.vstart ≡ 0
     → (mask_result vlenb vl m s o).control.vstart ≡ 0
@@ -452,7 +450,7 @@ module _ (b : Board) (word : ℕ) where
 
   -- a state that is refused stays refused: no page is opened after a refusal
   refused-always : (a : Answer) (s : State) (n : ℕ) (us : List Next) → refusal_only a ≡ true
-      → refusal_at b s.rights (core_of s) s.control.vstart ≡ Refused a → Proceeds b word s n us → (turns_of b word s n us).answer ≡ a
+      → refusal_at b s.rights (core_of s) s.control.vstart ≡ Err a → Proceeds b word s n us → (turns_of b word s n us).answer ≡ a
   unfolding turns_of
   refused-always a s n [] k h q = ap (λ (o : Outcome). o.answer) ((demand-1 b).refuses word n s a h)
   refused-always a s n (u ∷ us) k h q =
@@ -466,7 +464,7 @@ module _ (b : Board) (word : ℕ) where
 module _ (b : Board) (w : Valid b) (word : ℕ) where
   -- a state that is not refused
   abbrev Admitted : State → Type 0
-  Admitted s = refusal_at b s.rights (core_of s) s.control.vstart ≡ Accepted
+  Admitted s = refusal_at b s.rights (core_of s) s.control.vstart ≡ Ok tt
 
   lawful-at : (s : State) → Admitted s → Lawful (J b (plan_at b word s))
   lawful-at s h =
@@ -496,10 +494,10 @@ module _ (b : Board) (w : Valid b) (word : ℕ) where
       → turn_of b word (2 ^ 32 - 1) (with_rights (last_rights s.rights us) s) ≡ turns_of b word s n us
   uncut-any n s us h f = go (refusal_at b s.rights (core_of s) s.control.vstart) refl (board-refuses b _ _ _ s.rights _)
     where
-      go : (v : Verdict) → refusal_at b s.rights (core_of s) s.control.vstart ≡ v → Refuses refusal_only v
+      go : (v : Result ⊤ Answer) → refusal_at b s.rights (core_of s) s.control.vstart ≡ v → Refuses refusal_only v
           → turn_of b word (2 ^ 32 - 1) (with_rights (last_rights s.rights us) s) ≡ turns_of b word s n us
-      go Accepted e k = uncut-turns n s us h f e
-      go (Refused a) e (refuses k) = absurd (apart refusal_only a Finished k refl (sym (refused-always b word a s n us k e h) ∙ f))
+      go (Ok tt) e k = uncut-turns n s us h f e
+      go (Err a) e (refuses k) = absurd (apart refusal_only a Finished k refl (sym (refused-always b word a s n us k e h) ∙ f))
 
   wider-turn : (n m : ℕ) (s : State) (r : List ℕ) → n ≤ m → Opened s.rights r → (turn_of b word n s).answer ≡ Finished
       → turn_of b word m (with_rights r s)
@@ -510,14 +508,14 @@ module _ (b : Board) (w : Valid b) (word : ℕ) where
       p : Plan
       p = plan_at b word s
 
-      go : (v : Verdict) → refusal_at b s.rights (core_of s) s.control.vstart ≡ v → Refuses refusal_only v
+      go : (v : Result ⊤ Answer) → refusal_at b s.rights (core_of s) s.control.vstart ≡ v → Refuses refusal_only v
           → plan_turn b p m (with_rights r s)
           ≡ record { answer = Finished; passed = (plan_turn b p n s).passed; place = nowhere; after = with_rights r (plan_turn b p n s).after }
-      go Accepted y k =
+      go (Ok tt) y k =
           let e : (ran_of b p n s).ending ≡ finished = turn-finished b p (turn_with b p s.rights n) (point_of b p s) f in
           ap (outcome_of b p r) (monotone (J b p) (lawful-at s y) (turn_with b p s.rights n) (turn_with b p r m) (point_of b p s) o l e)
           ∙ answer-finished b p r (ran_of b p n s) e
-      go (Refused a) y (refuses k) =
+      go (Err a) y (refuses k) =
           absurd (apart refusal_only a Finished k refl (sym (ap (λ (z : Outcome). z.answer) (turn-refused b p n s a y)) ∙ f))
 
 pub demand-3 : (b : Board) → Valid b → Demand3 b

@@ -1,4 +1,5 @@
 -- What one element does: an element that is undisturbed does the same after an earlier one has written, and raised rights only lift faults.
+use Rattle.std.specs.Prelude.{Result, Ok, Err, ⊤}
 use Prim.Native.Nat.{ℕ, zero, suc, ◌+◌, ◌-◌, ◌≤◌, ◌<◌}
 use mathlib.Core.Path.{◌≡◌, refl, sym, ap, ap₂, ◌∙◌, subst}
 use mathlib.Core.Bool.{Bool, true, false, not, cond}
@@ -16,8 +17,6 @@ use Rattle.layout.proofs.BytesLaws.{length-with_bytes}
 use Rattle.group.specs.declared.Group.{Group}
 use Rattle.group.specs.Group.{nfields, field_group}
 use Rattle.access.specs.declared.Fault.{Fault}
-use Rattle.access.specs.declared.AccessTest.{AccessTest}
-use Rattle.access.specs.declared.AccessTest.TheVariants.{Granted, Faulted}
 use Rattle.access.specs.Access.{page_of, access_of, field_address, fields_access}
 use Rattle.access.proofs.AccessLaws.{facts-granted, granted-facts, granted-first, granted-next}
 use Rattle.plan.specs.declared.Read.TheVariants as R
@@ -47,12 +46,12 @@ write_same l m h = cc
 -- ---- access
 
 -- an access that writes does what it is to do
-granted-write : (v : AccessTest) (e : Effect Fault (List Write)) (l : List Write) → if_granted v e ≡ write l → e ≡ write l
-granted-write Granted e l h = h
-granted-write (Faulted f) e l h = absurd (fault≢write f l h)
+granted-write : (v : Result ⊤ Fault) (e : Effect Fault (List Write)) (l : List Write) → if_granted v e ≡ write l → e ≡ write l
+granted-write (Ok tt) e l h = h
+granted-write (Err f) e l h = absurd (fault≢write f l h)
 
-access-opened : (r r' : List ℕ) (memory : ℕ) (store : Bool) (a n : ℕ) → Opened r r' → access_of r memory store a n ≡ Granted
-    → access_of r' memory store a n ≡ Granted
+access-opened : (r r' : List ℕ) (memory : ℕ) (store : Bool) (a n : ℕ) → Opened r r' → access_of r memory store a n ≡ Ok tt
+    → access_of r' memory store a n ≡ Ok tt
 access-opened r r' memory store a n o h =
     let g = granted-facts r memory store a n h in
     facts-granted r' memory store a n
@@ -60,11 +59,11 @@ access-opened r r' memory store a n o h =
 
 -- fields that are granted are granted under raised rights
 fields-opened : (r r' : List ℕ) (memory : ℕ) (store : Bool) (a n k others : ℕ) → Opened r r'
-    → fields_access r memory store a n k others ≡ Granted → fields_access r' memory store a n k others ≡ Granted
+    → fields_access r memory store a n k others ≡ Ok tt → fields_access r' memory store a n k others ≡ Ok tt
 unfolding fields_access
 fields-opened r r' memory store a n k zero o h = h
 fields-opened r r' memory store a n k (suc others) o h =
-    let v : AccessTest = access_of r memory store (field_address a n k) n in
+    let v : Result ⊤ Fault = access_of r memory store (field_address a n k) n in
     rw (access-opened r r' memory store (field_address a n k) n o (granted-first v _ h))
     (fields-opened r r' memory store a n (suc k) others o (granted-next v _ h))
 
@@ -74,10 +73,10 @@ granted-opened : (r r' : List ℕ) (memory : ℕ) (store : Bool) (a n others : �
     → if_granted (fields_access r' memory store a n 0 others) e ≡ if_granted (fields_access r memory store a n 0 others) e
 granted-opened r r' memory store a n others e o = go (fields_access r memory store a n 0 others) refl
   where
-    go : (v : AccessTest) → fields_access r memory store a n 0 others ≡ v → faults (if_granted v e) ≡ false
+    go : (v : Result ⊤ Fault) → fields_access r memory store a n 0 others ≡ v → faults (if_granted v e) ≡ false
         → if_granted (fields_access r' memory store a n 0 others) e ≡ if_granted v e
-    go Granted q h = ap (λ (v : AccessTest). if_granted v e) (fields-opened r r' memory store a n 0 others o q)
-    go (Faulted f) q h = absurd (subst T h tt)
+    go (Ok tt) q h = ap (λ (v : Result ⊤ Fault). if_granted v e) (fields-opened r r' memory store a n 0 others o q)
+    go (Err f) q h = absurd (subst T h tt)
 
 -- ---- raised rights
 

@@ -1,4 +1,5 @@
 -- The fault of an element has a reason; its answer is a trap.
+use Rattle.std.specs.Prelude.{Result, Ok, Err, ⊤}
 use Prim.Native.Nat.{ℕ}
 use mathlib.Core.Path.{◌≡◌, refl, subst}
 use mathlib.Core.Bool.{Bool, true, false, not, ◌&&◌}
@@ -9,8 +10,6 @@ use Rattle.answer.specs.declared.Answer.{Answer}
 use Rattle.control.specs.declared.Board.{Board}
 use Rattle.group.specs.Group.{nfields}
 use Rattle.access.specs.declared.Fault.{Fault}
-use Rattle.access.specs.declared.AccessTest.{AccessTest}
-use Rattle.access.specs.declared.AccessTest.TheVariants.{Granted, Faulted}
 use Rattle.access.specs.Access.{misaligned, denied}
 use Rattle.access.specs.Reason.{Reason, not_aligned, past_memory, page-closed}
 use Rattle.access.proofs.Reason.{reasons}
@@ -32,10 +31,10 @@ Faulting R inactive = Unit {0}
 Faulting R (fault f) = R f
 Faulting R (write l) = Unit {0}
 
-checked-reason : (R : Fault → Type 0) (v : AccessTest) (l : List Write) → ((f : Fault) → v ≡ Faulted f → R f)
+checked-reason : (R : Fault → Type 0) (v : Result ⊤ Fault) (l : List Write) → ((f : Fault) → v ≡ Err f → R f)
     → Faulting R (if_granted v (write l))
-checked-reason R Granted l h = tt
-checked-reason R (Faulted f) l h = h f refl
+checked-reason R (Ok tt) l h = tt
+checked-reason R (Err f) l h = h f refl
 
 module _ (b : Board) (rights : List ℕ) (s : Core) where
   acting-reason : (e : Elementwise) (i : ℕ) (x : Action)

@@ -1,4 +1,5 @@
 -- THE PLAN OF EVERY DECODED WORD IS LAWFUL: no element changes what a later one does, and raised rights change only elements that fault.
+use Rattle.std.specs.Prelude.{Result, Ok, Err, ⊤}
 use Prim.Native.Nat.{ℕ, suc, ◌*◌, ◌≤◌, ◌<◌}
 use mathlib.Core.Path.{◌≡◌, refl, ◌∙◌}
 use mathlib.Core.Bool.{Bool, true, false, not, ◌&&◌, ◌||◌, cond}
@@ -11,8 +12,6 @@ use borrow.Author.Tests.{eq-eqb, le-leb, le-ltb}
 use Rattle.laws.proofs.Apart.{both_right}
 use Rattle.answer.specs.declared.Answer.{Answer}
 use Rattle.answer.specs.declared.Answer.TheVariants.{Illegal}
-use Rattle.answer.specs.declared.Verdict.{Verdict}
-use Rattle.answer.specs.declared.Verdict.TheVariants.{Accepted, Refused}
 use Rattle.control.specs.declared.Board.{Board}
 use Rattle.control.specs.declared.Control.{Control}
 use Rattle.control.specs.Board.{Valid}
@@ -41,14 +40,14 @@ pub record Facts (b : Board) (p : Plan) (r : List ℕ) (s : Core) (v : ℕ) : Ty
   pub acceptable : Acceptable b (length s.registers) (length s.scalars) (length s.memory) r (with_vstart s.control v)
   pub legal : legal_of b (with_vstart s.control v) p ≡ true
 
-accepted-first : (v : Verdict) (o : Option Answer) → or_illegal v o ≡ none → v ≡ Accepted
-accepted-first Accepted o h = refl
-accepted-first (Refused a) o h = cc
+accepted-first : (v : Result ⊤ Answer) (o : Option Answer) → or_illegal v o ≡ none → v ≡ Ok tt
+accepted-first (Ok tt) o h = refl
+accepted-first (Err a) o h = cc
 
-legal-then : (v : Verdict) (t : Bool) → or_illegal v (cond t none (some Illegal)) ≡ none → t ≡ true
-legal-then Accepted true h = refl
-legal-then Accepted false h = cc
-legal-then (Refused a) t h = cc
+legal-then : (v : Result ⊤ Answer) (t : Bool) → or_illegal v (cond t none (some Illegal)) ≡ none → t ≡ true
+legal-then (Ok tt) true h = refl
+legal-then (Ok tt) false h = cc
+legal-then (Err a) t h = cc
 
 pub facts : (b : Board) (p : Plan) (r : List ℕ) (s : Core) (v : ℕ) → rejection_at b p r s v ≡ none → Facts b p r s v
 unfolding rejection_at
@@ -56,7 +55,7 @@ facts b p r s v h =
     record { acceptable = accepted-facts b _ _ _ r _ (accepted-first _ _ h); legal = legal-then (refusal_of b _ _ _ r _) _ h }
 
 acceptable-accepted : (b : Board) (registers scalars memory : ℕ) (r : List ℕ) (c : Control) → Acceptable b registers scalars memory r c
-    → refusal_of b registers scalars memory r c ≡ Accepted
+    → refusal_of b registers scalars memory r c ≡ Ok tt
 unfolding refusal_of
 acceptable-accepted b registers scalars memory r c a =
     rw (

@@ -7,13 +7,12 @@ use mathlib.Core.Option.{none}
 use lib.ListN.{length}
 use lib.Dec.{leb, eqb}
 use borrow.Author.Tests.{le-leb}
+use Rattle.std.specs.Prelude.{Option, Some, None}
 use Rattle.laws.proofs.Apart.{both_left, both_right}
 use Rattle.laws.proofs.Chain.{either}
 use Rattle.answer.specs.declared.Answer.{Answer}
 use Rattle.control.specs.declared.Board.{Board}
 use Rattle.control.specs.declared.Control.{Control}
-use Rattle.control.specs.declared.Avl.{Avl}
-use Rattle.control.specs.declared.Avl.TheVariants.{To, Keep}
 use Rattle.control.specs.Control.{off, dirty, with_vstart, with_vs, set_to, vill_of, keeps_of, set_of, typed_well_of, possible_of}
 use Rattle.control.specs.Vtype.{supported_of}
 use Rattle.control.proofs.Laws.{possible-apart}
@@ -127,7 +126,7 @@ unfolding put_all
 all_settled b [] s = refl
 all_settled b (w ∷ ws) s = ap (put_all b.vlenb ws) (put-settled b w s) ∙ all_settled b ws (put_of b.vlenb w s)
 
-set-settled : (b : Board) (c : Control) (v : ℕ) (a : Avl) → set_of b (as_dirty c) v a ≡ as_dirty (set_of b c v a)
+set-settled : (b : Board) (c : Control) (v : ℕ) (a : Option ℕ) → set_of b (as_dirty c) v a ≡ as_dirty (set_of b c v a)
 unfolding set_of
 set-settled b c v a = by-avl a
   where
@@ -135,9 +134,9 @@ set-settled b c v a = by-avl a
     branch true vl = refl
     branch false vl = refl
 
-    by-avl : (a : Avl) → set_of b (as_dirty c) v a ≡ as_dirty (set_of b c v a)
-    by-avl (To avl) = branch (supported_of b v) _
-    by-avl Keep = branch (supported_of b v && keeps_of b c v) c.vl
+    by-avl : (a : Option ℕ) → set_of b (as_dirty c) v a ≡ as_dirty (set_of b c v a)
+    by-avl (Some avl) = branch (supported_of b v) _
+    by-avl None = branch (supported_of b v && keeps_of b c v) c.vl
 
 mask-settled : (vlenb vl : ℕ) (m : MaskInstruction) (s : Core) (o : MaskOp)
     → mask_result vlenb vl m (settled s) o ≡ settled (mask_result vlenb vl m s o)
@@ -175,10 +174,10 @@ unfolding put_of
 put-in-use b (to_registers g i x) s h = h
 put-in-use b (to_memory a n x) s h = h
 
-set-in-use : (b : Board) (c : Control) (v : ℕ) (a : Avl) → in_use c.vs ≡ true → in_use (set_of b c v a).vs ≡ true
+set-in-use : (b : Board) (c : Control) (v : ℕ) (a : Option ℕ) → in_use c.vs ≡ true → in_use (set_of b c v a).vs ≡ true
 unfolding set_of
-set-in-use b c v (To avl) h = either (λ (d : Control). in_use d.vs ≡ true) (supported_of b v) _ _ (λ t. h) (λ t. h)
-set-in-use b c v Keep h = either (λ (d : Control). in_use d.vs ≡ true) (supported_of b v && keeps_of b c v) _ _ (λ t. h) (λ t. h)
+set-in-use b c v (Some avl) h = either (λ (d : Control). in_use d.vs ≡ true) (supported_of b v) _ _ (λ t. h) (λ t. h)
+set-in-use b c v None h = either (λ (d : Control). in_use d.vs ≡ true) (supported_of b v && keeps_of b c v) _ _ (λ t. h) (λ t. h)
 
 mask-in-use : (vlenb vl : ℕ) (m : MaskInstruction) (s : Core) (o : MaskOp) → InUse s → InUse (mask_result vlenb vl m s o)
 unfolding mask_result

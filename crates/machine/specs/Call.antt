@@ -1,5 +1,4 @@
--- What a call of a turn is given and leaves, in the definition's terms: `turn::turn` promises `left .. ≡ turn_of base .. (given ..)`, and
--- `turn::small_turn` the same with `small`.
+-- What a call of a turn is given and leaves, in the definition's terms: `turn::turn` promises `left .. ≡ turn_of board .. (given ..)`.
 use Rattle.std.specs.Prelude.{ℕ, List}
 use Rattle.control.specs.declared.Control.{Control}
 use Rattle.machine.specs.declared.Turned.{Turned}

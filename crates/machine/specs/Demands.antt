@@ -1,11 +1,10 @@
 -- What is demanded of the definition of a turn: demands 1 and 3 of the customer and the law of the number passed, as statements on
 -- `turn_of`, on a board b.
-use Rattle.std.specs.Prelude.{ℕ, ◌+◌, ◌-◌, ◌^◌, ◌≤◌, ◌<◌, ◌≡◌, ◌⊎◌, Bool, true, false, List, [], ◌∷◌, length}
+use Rattle.std.specs.Prelude.{ℕ, ◌+◌, ◌-◌, ◌^◌, ◌≤◌, ◌<◌, ◌≡◌, ◌⊎◌, Bool, true, false, List, [], ◌∷◌, length, Err}
 use Rattle.answer.specs.declared.Answer.{Answer}
 use Rattle.answer.specs.declared.Answer.TheVariants.{Finished, Paused, Illegal}
 use Rattle.answer.specs.declared.Answer.TheVariants.{LoadMisaligned, LoadAccess, StoreMisaligned, StoreAccess}
 use Rattle.answer.specs.declared.Answer.TheVariants.{BadRegisters, BadScalars, BadMemory, BadRights, BadControl, NoGroup}
-use Rattle.answer.specs.declared.Verdict.TheVariants.{Refused}
 use Rattle.control.specs.declared.Board.{Board}
 use Rattle.access.specs.Access.{nowhere}
 use Rattle.refusal.specs.Refusal.{refusal_of}
@@ -54,7 +53,7 @@ pub record Demand1 (b : Board) : Type 0 where
   pub named : (word allowance : ℕ) (s : State) → (turn_of b word allowance s).answer ≡ NoGroup → ⊥
   -- "A state that can't be is refused": 32 to 36, whatever the word is
   pub refuses : (word allowance : ℕ) (s : State) (a : Answer)
-      → refusal_of b (length s.registers) (length s.scalars) (length s.memory) s.rights s.control ≡ Refused a
+      → refusal_of b (length s.registers) (length s.scalars) (length s.memory) s.rights s.control ≡ Err a
       → turn_of b word allowance s ≡ untouched a s
   pub unchanged : (word allowance : ℕ) (s : State) → changes_nothing (turn_of b word allowance s).answer ≡ true
       → turn_of b word allowance s ≡ untouched (turn_of b word allowance s).answer s

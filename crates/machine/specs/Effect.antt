@@ -1,6 +1,7 @@
 -- What one element does, by the state before (document 01, 'The definition': "The state before alone decides what each active one writes
 -- and whether it faults or saturates").
 use Rattle.std.specs.Prelude.{ℕ, zero, suc, ◌+◌, ◌-◌, ◌*◌, ◌%◌, ◌^◌, Bool, false, not, ◌||◌, cond, List, [], ◌∷◌, length, ltb, eqb}
+use Rattle.std.specs.Prelude.{Result, Ok, Err, ⊤}
 use Rattle.fixed.specs.declared.Element.{Element}
 use Rattle.fixed.specs.Round.{exact}
 use Rattle.alu.specs.Element.{element_of}
@@ -13,8 +14,6 @@ use Rattle.layout.specs.Layout.{bytes_at, with_bytes, element_at, with_element}
 use Rattle.group.specs.declared.Group.{Group}
 use Rattle.group.specs.Group.{nfields, field_group}
 use Rattle.access.specs.declared.Fault.{Fault}
-use Rattle.access.specs.declared.AccessTest.{AccessTest}
-use Rattle.access.specs.declared.AccessTest.TheVariants.{Granted, Faulted}
 use Rattle.access.specs.Access.{field_address, fields_access}
 use Rattle.plan.specs.declared.Read.{Read}
 use Rattle.plan.specs.declared.Read.TheVariants as R
@@ -62,9 +61,9 @@ abbrev pub element_address : Transfer → ℕ → ℕ → ℕ
 element_address t i offset = (t.base + i * t.stride + offset) % 2 ^ 64
 
 -- an access that is granted does what it is to do
-abbrev pub if_granted : AccessTest → Effect Fault (List Write) → Effect Fault (List Write)
-if_granted Granted e = e
-if_granted (Faulted f) e = fault f
+abbrev pub if_granted : Result ⊤ Fault → Effect Fault (List Write) → Effect Fault (List Write)
+if_granted (Ok tt) e = e
+if_granted (Err f) e = fault f
 
 -- an operation on the operands' elements
 abbrev pub computing : ℕ → List ℕ → Elementwise → Compute → ℕ → Effect Fault (List Write)

@@ -1,10 +1,8 @@
 -- THE DEFINITION: one turn of any word on any state (document 01, 'One turn and its answer').
-use Rattle.std.specs.Prelude.{ℕ, zero, ◌≤◌, max, ◌≡◌, cond, List, length, get_or}
+use Rattle.std.specs.Prelude.{ℕ, zero, ◌≤◌, max, ◌≡◌, cond, List, length, get_or, Result, Ok, Err, ⊤}
 use Rattle.std.proofs.Math.Option.{Option, none, some}
 use Rattle.answer.specs.declared.Answer.{Answer}
 use Rattle.answer.specs.declared.Answer.TheVariants.{Finished, Paused, Illegal}
-use Rattle.answer.specs.declared.Verdict.{Verdict}
-use Rattle.answer.specs.declared.Verdict.TheVariants.{Accepted, Refused}
 use Rattle.control.specs.declared.Board.{Board}
 use Rattle.control.specs.Control.{dirty, with_vstart}
 use Rattle.decode.specs.Word.{decode_of}
@@ -31,9 +29,9 @@ end_of (P.OneTurn t) = zero
 end_of (P.Elements e) = e.end
 
 -- the answers that change nothing: a refusal or, where there is none, 2 for a plan that is not legal
-abbrev pub or_illegal : Verdict → Option Answer → Option Answer
-or_illegal Accepted o = o
-or_illegal (Refused a) o = some a
+abbrev pub or_illegal : Result ⊤ Answer → Option Answer → Option Answer
+or_illegal (Ok tt) o = o
+or_illegal (Err a) o = some a
 
 module _ (b : Board) where
   abbrev pub effect_at : Plan → List ℕ → Core → ℕ → Effect Fault (List Write)
@@ -48,7 +46,7 @@ module _ (b : Board) where
   result_at (P.Elements e) v s = s
 
   -- refusals 32 to 36 of a state with vstart i
-  abbrev pub refusal_at : List ℕ → Core → ℕ → Verdict
+  abbrev pub refusal_at : List ℕ → Core → ℕ → Result ⊤ Answer
   refusal_at rights s i =
       refusal_of b (length s.registers) (length s.scalars) (length s.memory) rights (with_vstart s.control i)
 

@@ -1,13 +1,11 @@
 -- Instructions that take one turn: the setting instructions (section 7), the reductions (15.1, 15.2), vcpop.m, vfirst.m, vmsbf.m, vmsif.m,
 -- vmsof.m (16.2 to 16.6), viota.m (16.8), vmv.x.s, vmv.s.x (17.1), vcompress.vm (17.5).
-use Rattle.std.specs.Prelude.{ℕ, zero, suc, ◌+◌, ◌-◌, ◌%◌, ◌^◌, Bool, ◌&&◌, cond, set, ltb, leb, eqb}
+use Rattle.std.specs.Prelude.{ℕ, zero, suc, ◌+◌, ◌-◌, ◌%◌, ◌^◌, Bool, ◌&&◌, cond, set, ltb, leb, eqb, Option, Some, None}
 use mathlib.Core.List.{List, [], ◌∷◌, foldl}
 use Rattle.width.specs.Width.{flag, signed, wrap}
 use Rattle.integer.specs.Integer.{vadd, vwaddu, vwadd-w, vand, vor, vxor, vminu, vmin, vmaxu, vmax}
 use Rattle.control.specs.declared.Board.{Board}
 use Rattle.control.specs.declared.Control.{Control}
-use Rattle.control.specs.declared.Avl.{Avl}
-use Rattle.control.specs.declared.Avl.TheVariants.{To, Keep}
 use Rattle.control.specs.Control.{set_of}
 use Rattle.decode.specs.declared.AvlSource.{AvlSource}
 use Rattle.decode.specs.declared.AvlSource.TheVariants.{Register, Number, Largest, Kept}
@@ -40,11 +38,11 @@ with_scalar x r v = cond (eqb r 0) x (set x r v)
 
 -- ---- setting
 
-abbrev pub avl_from : List ℕ → AvlSource → Avl
-avl_from x (Register r) = To (scalar_of x r)
-avl_from x (Number n) = To n
-avl_from x Largest = To (2 ^ 64 - 1)
-avl_from x Kept = Keep
+abbrev pub avl_from : List ℕ → AvlSource → Option ℕ
+avl_from x (Register r) = Some (scalar_of x r)
+avl_from x (Number n) = Some n
+avl_from x Largest = Some (2 ^ 64 - 1)
+avl_from x Kept = None
 
 abbrev pub type_from : List ℕ → TypeSource → ℕ
 type_from x (Given v) = v

@@ -1,7 +1,6 @@
 -- The ratified sentence on sources (document 02, A5), as a statement on every turn.
-use Rattle.std.specs.Prelude.{ℕ, ◌≡◌, length}
+use Rattle.std.specs.Prelude.{ℕ, ◌≡◌, length, Ok}
 use Rattle.answer.specs.declared.Answer.TheVariants.{Illegal}
-use Rattle.answer.specs.declared.Verdict.TheVariants.{Accepted}
 use Rattle.control.specs.declared.Board.{Board}
 use Rattle.refusal.specs.Refusal.{refusal_of}
 use Rattle.plan.specs.Sources.{sources_of}
@@ -14,6 +13,6 @@ use Rattle.machine.specs.Demands.{untouched}
 -- nothing
 abbrev pub TwoEews : Board → Type 0
 TwoEews b = (word allowance : ℕ) (s : State)
-    → refusal_of b (length s.registers) (length s.scalars) (length s.memory) s.rights s.control ≡ Accepted
+    → refusal_of b (length s.registers) (length s.scalars) (length s.memory) s.rights s.control ≡ Ok tt
     → (ReadAtOneEew (sources_of (plan_at b word s)) → ⊥)
     → turn_of b word allowance s ≡ untouched Illegal s

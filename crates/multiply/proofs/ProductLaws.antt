@@ -14,6 +14,7 @@ use Rattle.multiply.proofs.OperandLaws.{op-is}
 use Rattle.width.specs.Width.{Width, signed, wrap}
 use Rattle.width.proofs.SignedLaws.{mul-fits, narrow-abs, signed-read, product-fits, shr-back}
 use Rattle.width.proofs.LowBits.{mul-lt}
+use Rattle.width.proofs.Widths.{double-of}
 
 pub unsigned-fits : (w a b : ℕ) → Width (2 * w) → a < 2 ^ w → b < 2 ^ w → Fits w64 (a * b)
 unsigned-fits w a b s h l = record { fits = lt_of_lt_of_le (mul-lt w w h l) (pow_mono {j = 64} (omega arith)) }
@@ -46,4 +47,4 @@ pub high_is : (w m r p q : ℕ) (x y : ℤ) → r ≡ wrap w (to_z w64 (of_z w64
 high_is w m r p q x y e f h l = e ∙ ap (wrap w) (shr-back (to_z w64 p *ℤ to_z w64 q) m f ∙ ap₂ (λ (u v : ℤ). shr_z (u *ℤ v) m) h l)
 
 -- what the signed products are proved by
-pub ruleset products = (cast_fits, product-fits, mixed-fits, signed-read, unsigned-read, low-is, high_is)
+pub ruleset products = (double-of, cast_fits, product-fits, mixed-fits, signed-read, unsigned-read, low-is, high_is)

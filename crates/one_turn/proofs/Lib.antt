@@ -1,4 +1,3 @@
-pub mod ScalarLaws
 pub mod MaskLaws
 pub mod ResultLaws
 pub mod MoveLaws

@@ -8,36 +8,15 @@ use native.Mathlib.Numerals.{add-one}
 use native.Mathlib.Nat.{mul-le-mul_right}
 use native.Mathlib.Omega.{arith}
 use lib.ListN.{length}
-use lib.Dec.{T, ltb, eqb, lit<}
-use borrow.Author.Tests.{lt-ltb, le-ltb}
+use lib.Dec.{T, eqb}
 use Rattle.width.specs.Width.{flag}
-use Rattle.decode.specs.declared.MaskOp.{MaskOp}
 use Rattle.decode.specs.declared.MaskInstruction.{MaskInstruction}
-use Rattle.layout.specs.Layout.{with_element, Inside}
+use Rattle.layout.specs.Layout.{with_element}
 use Rattle.layout.proofs.ElementLaws.{apart, length-with_element}
 use Rattle.machine.specs.Effect.{active_of}
-use Rattle.machine.proofs.Geometry as Geometry
 use Rattle.machine.proofs.Writing.{Written, written_none, written-more, written_all}
 use Rattle.machine.specs.OneTurn.{set_at, population_of, first_of, first_bit, setting_first}
 use Rattle.legality.specs.Legal.{keeps_v0}
-use Rattle.one_turn.specs.Holds.{Holds}
-
--- ---- one bit
-
-pub bit-inside : (size vlenb reg i : ℕ) → size ≡ 32 * vlenb → reg < 32 → i < 8 * vlenb → Inside size vlenb reg 1 i
-bit-inside size vlenb reg i e h l = rw e (Geometry.bit-inside vlenb reg i h l)
-
--- of v0 and of vs2, below vl
-module _ (size vlenb vl : ℕ) (m : MaskInstruction) (h : Holds size vlenb vl m) (i : ℕ) (l : i < vl) where
-  pub v0-inside : Inside size vlenb 0 1 i
-  v0-inside = bit-inside size vlenb 0 i h.whole (lit< tt) (omega (arith, h.within))
-
-  pub vs2-inside : Inside size vlenb m.vs2 1 i
-  vs2-inside = bit-inside size vlenb m.vs2 i h.whole h.fits.vs2 (omega (arith, h.within))
-
--- in the arm of the variant v
-pub bit-by : (op v : MaskOp) (i first r : ℕ) → op ≡ v → r ≡ first_bit v i first → r ≡ first_bit op i first
-bit-by op v i first r e p = rw e p
 
 -- ---- the population of the first i
 
@@ -53,10 +32,6 @@ pub population-more : (vlenb : ℕ) (file : List ℕ) (masked : Bool) (reg i n x
     → t ≡ set_at vlenb file masked reg i → x ≡ flag t → n + x ≡ population_of vlenb file masked reg (i + 1)
 unfolding population_of
 population-more vlenb file masked reg i n x t e h f = rw (add-one i, ← h, ← e, f)
-
-pub population-all : (vlenb : ℕ) (file : List ℕ) (masked : Bool) (reg i vl n : ℕ) → n ≡ population_of vlenb file masked reg i → i ≤ vl
-    → vl ≤ i → n ≡ population_of vlenb file masked reg vl
-population-all vlenb file masked reg i vl n e p q = let u : vl ≡ i = omega arith in rw u e
 
 -- ---- the first from i up
 
@@ -80,13 +55,6 @@ module _ (vlenb : ℕ) (file : List ℕ) (masked : Bool) (reg i vl r : ℕ) (e :
       let s : vl - i ≡ 0 = omega arith in
       let u : vl ≡ i = omega arith in
       u ∙ (rw s at e)
-
--- what vfirst gives, or x where none is set
-pub first_some : (f f' vl x : ℕ) → f ≡ f' → f < vl → f ≡ cond (ltb f' vl) f' x
-first_some f f' vl x e l = rw (← e, lt-ltb f vl l)
-
-pub first-missing : (f f' vl x : ℕ) → f ≡ f' → vl ≤ f → x ≡ cond (ltb f' vl) f' x
-first-missing f f' vl x e l = rw (← e, le-ltb f vl l)
 
 -- ---- bits set in place: the mask in v0 is read as it was
 
@@ -137,8 +105,3 @@ module _ (vlenb : ℕ) (m : MaskInstruction) (first vl : ℕ) (before : List ℕ
   pub going-all : (f i : ℕ) (file : List ℕ) → Going vlenb m first vl before i file → vl ≤ i → first ≡ f
       → file ≡ setting_first vlenb vl before m f
   going-all f i file g q e = rw (← e) (written_all vlenb _ _ _ _ _ vl before i file g.written q)
-
--- the loop has not passed the end
-pub going-most : {vlenb : ℕ} {m : MaskInstruction} {first vl : ℕ} {before : List ℕ} {i : ℕ} {file : List ℕ}
-    → Going vlenb m first vl before i file → i ≤ vl
-going-most g = g.written.passed

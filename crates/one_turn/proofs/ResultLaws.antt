@@ -1,19 +1,17 @@
 -- The results that the code leaves are those of the definition, arm by arm.
 use Prim.Native.Nat.{ℕ, ◌*◌, ◌≤◌}
 use mathlib.Core.Path.{◌≡◌, refl, sym, ap, ◌∙◌, subst}
-use mathlib.Core.Bool.{Bool, true, false, not, ◌&&◌, ◌||◌}
+use mathlib.Core.Bool.{true, not}
 use mathlib.Core.List.{List}
 use native.Mathlib.Omega.{arith}
-use lib.ListN.{length}
 use lib.Dec.{T, eqb}
+use Rattle.std.specs.Prelude.{Option, Some, None}
 use Rattle.laws.proofs.Apart.{both_left, both_right, apart}
 use Rattle.control.specs.declared.Board.{Board}
 use Rattle.control.specs.declared.Control.{Control}
-use Rattle.control.specs.declared.Avl.{Avl}
-use Rattle.control.specs.declared.Avl.TheVariants.{To, Keep}
 use Rattle.control.specs.Vtype.{vill, sew_of, supported_of}
 use Rattle.control.specs.Control.{with_vstart, set_of}
-use Rattle.control.proofs.Laws.{Possible, possible-apart, sew-ge}
+use Rattle.control.proofs.Laws.{Possible, possible-apart, sew-ge, valid}
 use Rattle.decode.specs.declared.Setting.{Setting}
 use Rattle.decode.specs.declared.MaskOp.{MaskOp}
 use Rattle.decode.specs.declared.MaskInstruction.{MaskInstruction}
@@ -31,7 +29,7 @@ use Rattle.plan.specs.declared.Plan.TheVariants as P
 use Rattle.plan.specs.Plan.{scalar_moving_of, plan_of}
 use Rattle.plan.specs.Range.{OneTurnFits, PlanFits}
 use Rattle.plan.proofs.RangeLaws.{plan-range}
-use Rattle.legality.specs.Legal.{startable, writes_mask, keeps_v0, mask_apart, one_turn_legal}
+use Rattle.legality.specs.Legal.{startable, mask_apart, one_turn_legal}
 use Rattle.machine.specs.State.{Core}
 use Rattle.machine.specs.OneTurn.{with_scalar, avl_from, type_from, setting_result, mask_result, reduced_file, packed_file, scalar_move_result}
 use Rattle.machine.specs.OneTurn.{one_turn_result}
@@ -59,20 +57,6 @@ pub registers-left : (file file' memory x : List ℕ) (c : Control) → file' �
 registers-left file file' memory x c p = rw p
 
 pub ruleset left = (result_by, scalar-left, registers-left)
-
-or-holds : (p q : Bool) → p ≡ true → T (not p || q) → T q
-or-holds true q e h = h
-or-holds false q e h = absurd (subst T (sym e) tt)
-
-and-holds : (p q : Bool) → T (p && q) → T q
-and-holds true q h = h
-and-holds false q h = absurd h
-
--- one that writes a mask spares v0 where that is the mask
-pub spares-v0 : (m : MaskInstruction) (v : MaskOp) → m.op ≡ v → writes_mask v ≡ true → T (mask_apart m) → T (keeps_v0 m)
-spares-v0 m v e f h =
-    and-holds (not (eqb m.rd m.vs2)) (keeps_v0 m)
-    (or-holds (writes_mask m.op) (not (eqb m.rd m.vs2) && keeps_v0 m) (ap writes_mask e ∙ f) h)
 
 -- ---- the vector register of a scalar move has elements of SEW bits
 
@@ -119,7 +103,7 @@ module _ (b : Board) (size : ℕ) (x : List ℕ) (c : Control) (t : OneTurn) (h 
 
   pub mask-holds : (m : MaskInstruction) → t ≡ O.Mask m → Holds size b.vlenb c.vl m
   mask-holds m e =
-      record { whole = h.registers; most = h.valid.most; within = can-be.vl; fits = subst OneTurnFits e one-turn-in-range }
+      record { whole = h.registers; most = (valid b).most; within = can-be.vl; fits = subst OneTurnFits e one-turn-in-range }
 
   pub mask-is-apart : (m : MaskInstruction) → t ≡ O.Mask m → T (mask_apart m)
   unfolding one_turn_legal
@@ -128,13 +112,13 @@ module _ (b : Board) (size : ℕ) (x : List ℕ) (c : Control) (t : OneTurn) (h 
 
   pub reduction-holds : (r : Reduction) → t ≡ O.Reduction r → Reducible size b.vlenb r c.vl
   reduction-holds r e =
-      rw h.registers (reducible b c h.valid can-be x h.word r h.fits (h.plan ∙ ap P.OneTurn e) (is-legal (O.Reduction r) e))
+      rw h.registers (reducible b c (valid b) can-be x h.word r h.fits (h.plan ∙ ap P.OneTurn e) (is-legal (O.Reduction r) e))
 
   pub packing-holds : (p : Packing) → t ≡ O.Packing p → Packable size b.vlenb p c.vl
   packing-holds p e =
-      rw h.registers (packable b c h.valid can-be x h.word p h.fits (h.plan ∙ ap P.OneTurn e) (is-legal (O.Packing p) e))
+      rw h.registers (packable b c (valid b) can-be x h.word p h.fits (h.plan ∙ ap P.OneTurn e) (is-legal (O.Packing p) e))
 
-  pub move-holds : (m : ScalarMove) → t ≡ O.ScalarMove m → Movable size b.vlenb (length x) m
+  pub move-holds : (m : ScalarMove) → t ≡ O.ScalarMove m → Movable size b.vlenb m
   unfolding one_turn_legal
   move-holds m e =
       let f : OneTurnFits (O.ScalarMove m) = subst OneTurnFits e one-turn-in-range in
@@ -142,18 +126,17 @@ module _ (b : Board) (size : ℕ) (x : List ℕ) (c : Control) (t : OneTurn) (h 
       subst (PlanMove c.vtype) (h.plan ∙ ap P.OneTurn e) (every-move b x c h.word) in
       let s : sew_of c.vtype ≤ b.elen = typed-sew b c can-be (both_left (not (eqb c.vtype vill)) _ (is-legal (O.ScalarMove m) e)) in
       record {
-        count = h.scalars;
         scalar = f.scalar;
-        width = record { some = omega (arith, w, sew-ge c.vtype); most = omega (arith, w, s, h.valid.elen) };
+        width = record { some = omega (arith, w, sew-ge c.vtype); most = omega (arith, w, s, (valid b).elen) };
         element = rw h.registers (subst (λ n. Inside (32 * b.vlenb) b.vlenb m.vector.reg n 0) (sym w)
-            (register-inside b (sew_of c.vtype) m.vector.reg h.valid (sew-power c.vtype) (sew-ge c.vtype) s f.vector));
+            (register-inside b (sew_of c.vtype) m.vector.reg (valid b) (sew-power c.vtype) (sew-ge c.vtype) s f.vector));
       }
 
 -- a setting instruction takes nothing from vstart
-set-any-vstart : (b : Board) (c : Control) (v vtype : ℕ) (avl : Avl) → set_of b (with_vstart c v) vtype avl ≡ set_of b c vtype avl
+set-any-vstart : (b : Board) (c : Control) (v vtype : ℕ) (avl : Option ℕ) → set_of b (with_vstart c v) vtype avl ≡ set_of b c vtype avl
 unfolding set_of
-set-any-vstart b c v vtype (To n) = refl
-set-any-vstart b c v vtype Keep = refl
+set-any-vstart b c v vtype (Some n) = refl
+set-any-vstart b c v vtype None = refl
 
 pub setting-left : (b : Board) (t : OneTurn) (s : Setting) (file x x' : List ℕ) (c r : Control) → t ≡ O.Setting s
     → r ≡ set_of b c (type_from x s.vtype) (avl_from x s.avl) → x' ≡ with_scalar x s.rd r.vl → (memory : List ℕ)

@@ -13,9 +13,8 @@ pub record Holds (size vlenb vl : ℕ) (m : MaskInstruction) : Type 0 where
   pub within : vl ≤ 8 * vlenb
   pub fits : MaskFits m
 
--- the vector register of a scalar move has its element 0 inside a file of so many bytes, and there are 32 scalar registers
-pub record Movable (size vlenb scalars : ℕ) (m : ScalarMove) : Type 0 where
-  pub count : scalars ≡ 32
+-- the vector register of a scalar move has its element 0 inside a file of so many bytes
+pub record Movable (size vlenb : ℕ) (m : ScalarMove) : Type 0 where
   pub scalar : m.scalar < 32
   pub width : Width m.vector.eew
   pub element : Inside size vlenb m.vector.reg m.vector.eew 0

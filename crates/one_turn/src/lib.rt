@@ -6,7 +6,6 @@
 ghost use Rattle.std.specs.Prelude.{◌≡◌, cond, List, ℕ, ◌*◌, ◌^◌, ◌-◌, ◌<◌, length, T, ltb};
 ghost use Rattle.width.specs.Width.{signed, wrap};
 ghost use Rattle.control.specs.declared.Control.{Control};
-ghost use Rattle.control.specs.Board.{Valid};
 ghost use Rattle.control.specs.Control.{with_vstart, set_of};
 ghost use Rattle.decode.specs.Fields.{AvlFits, TypeFits, SettingFits, MaskFits};
 ghost use Rattle.layout.specs.Layout.{element_at, with_element};
@@ -19,15 +18,16 @@ ghost use Rattle.execute.specs.Step.{core_at};
 ghost use Rattle.one_turn.specs.Holds.{Holds, Movable};
 ghost use Rattle.one_turn.specs.Performable.{Performable};
 
-use control::{Avl, Board, Control};
+use control::{Board, Control};
 use decode::{AvlSource, MaskInstruction, MaskOp, ScalarMoveOp, Setting, TypeSource};
 use plan::{OneTurn, ScalarMove};
+use width::Eew;
 
 // ---- scalar registers
 
 // x0 is never written.
-fn put_scalar(x: &mut [u64], r: usize, z: u64)
-    requires { (length x.old ≡ 32) × (r < 32) }
+fn put_scalar(x: &mut [u64; 32], r: usize, z: u64)
+    requires { r < 32 }
     ensures { x.new ≡ with_scalar x.old r z }
 {
     if r != 0 {
@@ -37,20 +37,21 @@ fn put_scalar(x: &mut [u64], r: usize, z: u64)
 
 // ---- setting
 
-fn avl_of(x: &[u64], avl: AvlSource) -> Avl
-    requires { (length x.now ≡ 32) × AvlFits avl }
+// The application vector length that is asked for; none where vl is kept.
+fn avl_of(x: &[u64; 32], avl: AvlSource) -> Option<u64>
+    requires { AvlFits avl }
     ensures { result ≡ avl_from x.now avl }
 {
     match avl {
-        AvlSource::Register(r) => Avl::To(plan::scalar(x, r)),
-        AvlSource::Number(n) => Avl::To(n),
-        AvlSource::Largest => Avl::To(0xffff_ffff_ffff_ffff),
-        AvlSource::Kept => Avl::Keep,
+        AvlSource::Register(r) => Some(plan::scalar(x, r)),
+        AvlSource::Number(n) => Some(n),
+        AvlSource::Largest => Some(u64::MAX),
+        AvlSource::Kept => None,
     }
 }
 
-fn type_of(x: &[u64], vtype: TypeSource) -> u64
-    requires { (length x.now ≡ 32) × TypeFits vtype }
+fn type_of(x: &[u64; 32], vtype: TypeSource) -> u64
+    requires { TypeFits vtype }
     ensures { result ≡ type_from x.now vtype }
 {
     match vtype {
@@ -60,8 +61,8 @@ fn type_of(x: &[u64], vtype: TypeSource) -> u64
 }
 
 // The control record after a setting instruction; rd gets the new vl.
-fn setting(board: Board, scalars: &mut [u64], control: Control, s: Setting) -> Control
-    requires { Valid board × ((length scalars.old ≡ 32) × SettingFits s) }
+fn setting(board: Board, scalars: &mut [u64; 32], control: Control, s: Setting) -> Control
+    requires { SettingFits s }
     ensures { (result ≡ set_of board control (type_from scalars.old s.vtype) (avl_from scalars.old s.avl))
         × (scalars.new ≡ with_scalar scalars.old s.rd result.vl) }
 {
@@ -80,10 +81,8 @@ fn count(registers: &[u8], vlenb: usize, m: MaskInstruction, vl: usize) -> u64
     ensures { result ≡ population_of vlenb registers.now m.masked m.vs2 vl }
 {
     let mut n: u64 = 0;
-    let mut i: usize = 0;
-    while i < vl {
-        n += width::flagged(execute::set_at(registers, vlenb, m.masked, m.vs2, i));
-        i += 1;
+    for i in 0..vl {
+        n += u64::from(execute::set_at(registers, vlenb, m.masked, m.vs2, i));
     }
     n
 }
@@ -93,12 +92,10 @@ fn first(registers: &[u8], vlenb: usize, m: MaskInstruction, vl: usize) -> usize
     requires { Holds (length registers.now) vlenb vl m }
     ensures { result ≡ first_of vlenb registers.now m.masked m.vs2 0 vl }
 {
-    let mut i: usize = 0;
-    while i < vl {
+    for i in 0..vl {
         if execute::set_at(registers, vlenb, m.masked, m.vs2, i) {
             return i;
         }
-        i += 1;
     }
     vl
 }
@@ -121,11 +118,10 @@ fn first_bit(op: MaskOp, i: usize, first: usize) -> u64
     ensures { result ≡ first_bit op i first }
 {
     match op {
-        MaskOp::Vmsbf => width::flagged(i < first),
-        MaskOp::Vmsif => width::flagged(i <= first),
-        MaskOp::Vmsof => width::flagged(i == first),
-        MaskOp::Vcpop => 0,
-        MaskOp::Vfirst => 0,
+        MaskOp::Vmsbf => u64::from(i < first),
+        MaskOp::Vmsif => u64::from(i <= first),
+        MaskOp::Vmsof => u64::from(i == first),
+        MaskOp::Vcpop | MaskOp::Vfirst => 0,
     }
 }
 
@@ -149,16 +145,20 @@ fn set_first(registers: &mut [u8], vlenb: usize, m: MaskInstruction, vl: usize)
         ≡ setting_first vlenb vl registers.old m (first_of vlenb registers.old m.masked m.vs2 0 vl) }
 {
     let f = first(registers, vlenb, m, vl);
-    let mut i: usize = 0;
-    while i < vl {
+    for i in 0..vl {
         set_bit(registers, vlenb, m, f, i);
-        i += 1;
     }
 }
 
 // The one turn of an instruction on masks.
-fn mask_turn(registers: &mut [u8], scalars: &mut [u64], vlenb: usize, vl: usize, m: MaskInstruction)
-    requires { Holds (length registers.old) vlenb vl m × ((length scalars.old ≡ 32) × T (mask_apart m)) }
+fn mask_turn(
+    registers: &mut [u8],
+    scalars: &mut [u64; 32],
+    vlenb: usize,
+    vl: usize,
+    m: MaskInstruction,
+)
+    requires { Holds (length registers.old) vlenb vl m × T (mask_apart m) }
     ensures { (memory : List ℕ) (c : Control) → core_at registers.new memory scalars.new c
         ≡ mask_result vlenb vl m (core_at registers.old memory scalars.old c) m.op }
 {
@@ -172,36 +172,37 @@ fn mask_turn(registers: &mut [u8], scalars: &mut [u64], vlenb: usize, vl: usize,
             let f = first_or_ones(registers, vlenb, m, vl);
             put_scalar(scalars, m.rd, f);
         }
-        MaskOp::Vmsbf => set_first(registers, vlenb, m, vl),
-        MaskOp::Vmsof => set_first(registers, vlenb, m, vl),
-        MaskOp::Vmsif => set_first(registers, vlenb, m, vl),
+        MaskOp::Vmsbf | MaskOp::Vmsof | MaskOp::Vmsif => set_first(registers, vlenb, m, vl),
     }
 }
 
 // ---- scalar moves
 
 // vmv.x.s: element 0, sign-extended to 64 bits, whatever vl is.
-fn to_scalar(registers: &[u8], scalars: &mut [u64], vlenb: usize, m: ScalarMove)
-    requires { Movable (length registers.now) vlenb (length scalars.old) m }
+fn to_scalar(registers: &[u8], scalars: &mut [u64; 32], vlenb: usize, m: ScalarMove)
+    requires { Movable (length registers.now) vlenb m }
     ensures { scalars.new
         ≡ with_scalar scalars.old m.scalar
         (wrap 64 (signed m.vector.eew (element_at vlenb registers.now m.vector.reg m.vector.eew 0))) }
 {
     let vector = m.vector;
+    let eew = Eew {
+        bits: vector.eew as u64,
+    };
     let z = layout::read_element(registers, vlenb, vector.reg, vector.eew, 0);
-    put_scalar(scalars, m.scalar, integer::extend(vector.eew as u64, 64, z));
+    put_scalar(scalars, m.scalar, integer::extend(eew, Eew { bits: 64 }, z));
 }
 
 // vmv.s.x: element 0, unless vstart has reached vl.
 fn to_vector(
     registers: &mut [u8],
-    scalars: &[u64],
+    scalars: &[u64; 32],
     vlenb: usize,
     vl: u64,
     vstart: u64,
     m: ScalarMove,
 )
-    requires { Movable (length registers.old) vlenb (length scalars.now) m }
+    requires { Movable (length registers.old) vlenb m }
     ensures { registers.new
         ≡ cond (ltb vstart vl)
         (with_element vlenb registers.old m.vector.reg m.vector.eew 0 (scalar_of scalars.now m.scalar))
@@ -217,12 +218,12 @@ fn to_vector(
 // The one turn of a scalar move.
 fn scalar_turn(
     registers: &mut [u8],
-    scalars: &mut [u64],
+    scalars: &mut [u64; 32],
     vlenb: usize,
     control: Control,
     m: ScalarMove,
 )
-    requires { Movable (length registers.old) vlenb (length scalars.old) m }
+    requires { Movable (length registers.old) vlenb m }
     ensures { (memory : List ℕ) → core_at registers.new memory scalars.new (with_vstart control 0)
         ≡ scalar_move_result vlenb m control.vstart
         (core_at registers.old memory scalars.old (with_vstart control 0)) m.op }
@@ -242,7 +243,7 @@ fn scalar_turn(
 pub fn perform(
     board: Board,
     registers: &mut [u8],
-    scalars: &mut [u64],
+    scalars: &mut [u64; 32],
     control: Control,
     t: OneTurn,
 ) -> Control

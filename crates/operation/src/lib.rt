@@ -174,27 +174,30 @@ impl Shape {
     fn accumulating(self) -> Shape
         ensures { result ≡ accumulating_of self }
     {
-        let mut shape = self;
-        shape.accumulates = true;
-        shape
+        Shape {
+            accumulates: true,
+            ..self
+        }
     }
 
     // An immediate is not sign-extended.
     fn by_unsigned(self) -> Shape
         ensures { result ≡ unsigned_of self }
     {
-        let mut shape = self;
-        shape.unsigned = true;
-        shape
+        Shape {
+            unsigned: true,
+            ..self
+        }
     }
 
     // SEW goes to 32 alone.
     fn up_to_32(self) -> Shape
         ensures { result ≡ up_to_32 self }
     {
-        let mut shape = self;
-        shape.largest = 32;
-        shape
+        Shape {
+            largest: 32,
+            ..self
+        }
     }
 }
 
@@ -219,89 +222,60 @@ pub fn form_of(op: Op) -> Form
     ensures { result ≡ form_of op }
 {
     match op {
-        Op::Vadd => Form::SingleWidth,
-        Op::Vsub => Form::SingleWidth,
-        Op::Vrsub => Form::SingleWidth,
-        Op::Vwaddu => Form::Widening,
-        Op::Vwadd => Form::Widening,
-        Op::Vwsubu => Form::Widening,
-        Op::Vwsub => Form::Widening,
-        Op::VwadduW => Form::WideFirst,
-        Op::VwaddW => Form::WideFirst,
-        Op::VwsubuW => Form::WideFirst,
-        Op::VwsubW => Form::WideFirst,
-        Op::VzextVf2 => Form::FromHalf,
-        Op::VsextVf2 => Form::FromHalf,
-        Op::VzextVf4 => Form::FromQuarter,
-        Op::VsextVf4 => Form::FromQuarter,
-        Op::VzextVf8 => Form::FromEighth,
-        Op::VsextVf8 => Form::FromEighth,
-        Op::Vadc => Form::AddCarry,
-        Op::Vsbc => Form::AddCarry,
-        Op::Vmadc => Form::CarryOut,
-        Op::Vmsbc => Form::CarryOut,
-        Op::Vand => Form::SingleWidth,
-        Op::Vor => Form::SingleWidth,
-        Op::Vxor => Form::SingleWidth,
-        Op::Vsll => Form::Shift,
-        Op::Vsrl => Form::Shift,
-        Op::Vsra => Form::Shift,
-        Op::Vnsrl => Form::Narrowing,
-        Op::Vnsra => Form::Narrowing,
-        Op::Vmseq => Form::Compare,
-        Op::Vmsne => Form::Compare,
-        Op::Vmsltu => Form::Compare,
-        Op::Vmslt => Form::Compare,
-        Op::Vmsleu => Form::Compare,
-        Op::Vmsle => Form::Compare,
-        Op::Vmsgtu => Form::Compare,
-        Op::Vmsgt => Form::Compare,
-        Op::Vminu => Form::SingleWidth,
-        Op::Vmin => Form::SingleWidth,
-        Op::Vmaxu => Form::SingleWidth,
-        Op::Vmax => Form::SingleWidth,
-        Op::Vmul => Form::SingleWidth,
-        Op::Vmulh => Form::High,
-        Op::Vmulhu => Form::High,
-        Op::Vmulhsu => Form::High,
-        Op::Vdivu => Form::SingleWidth,
-        Op::Vdiv => Form::SingleWidth,
-        Op::Vremu => Form::SingleWidth,
-        Op::Vrem => Form::SingleWidth,
-        Op::Vwmul => Form::Widening,
-        Op::Vwmulu => Form::Widening,
-        Op::Vwmulsu => Form::Widening,
-        Op::Vmacc => Form::MultiplyAdd,
-        Op::Vnmsac => Form::MultiplyAdd,
-        Op::Vmadd => Form::MultiplyAdd,
-        Op::Vnmsub => Form::MultiplyAdd,
-        Op::Vwmaccu => Form::WideningMultiplyAdd,
-        Op::Vwmacc => Form::WideningMultiplyAdd,
-        Op::Vwmaccsu => Form::WideningMultiplyAdd,
-        Op::Vwmaccus => Form::WideningMultiplyAdd,
+        Op::Vadd
+        | Op::Vsub
+        | Op::Vrsub
+        | Op::Vand
+        | Op::Vor
+        | Op::Vxor
+        | Op::Vminu
+        | Op::Vmin
+        | Op::Vmaxu
+        | Op::Vmax
+        | Op::Vmul
+        | Op::Vdivu
+        | Op::Vdiv
+        | Op::Vremu
+        | Op::Vrem
+        | Op::Vsaddu
+        | Op::Vsadd
+        | Op::Vssubu
+        | Op::Vssub
+        | Op::Vaaddu
+        | Op::Vaadd
+        | Op::Vasubu
+        | Op::Vasub => Form::SingleWidth,
+        Op::Vwaddu | Op::Vwadd | Op::Vwsubu | Op::Vwsub | Op::Vwmul | Op::Vwmulu | Op::Vwmulsu =>
+            Form::Widening,
+        Op::VwadduW | Op::VwaddW | Op::VwsubuW | Op::VwsubW => Form::WideFirst,
+        Op::VzextVf2 | Op::VsextVf2 => Form::FromHalf,
+        Op::VzextVf4 | Op::VsextVf4 => Form::FromQuarter,
+        Op::VzextVf8 | Op::VsextVf8 => Form::FromEighth,
+        Op::Vadc | Op::Vsbc => Form::AddCarry,
+        Op::Vmadc | Op::Vmsbc => Form::CarryOut,
+        Op::Vsll | Op::Vsrl | Op::Vsra | Op::Vssrl | Op::Vssra => Form::Shift,
+        Op::Vnsrl | Op::Vnsra | Op::Vnclipu | Op::Vnclip => Form::Narrowing,
+        Op::Vmseq
+        | Op::Vmsne
+        | Op::Vmsltu
+        | Op::Vmslt
+        | Op::Vmsleu
+        | Op::Vmsle
+        | Op::Vmsgtu
+        | Op::Vmsgt => Form::Compare,
+        Op::Vmulh | Op::Vmulhu | Op::Vmulhsu | Op::Vsmul => Form::High,
+        Op::Vmacc | Op::Vnmsac | Op::Vmadd | Op::Vnmsub => Form::MultiplyAdd,
+        Op::Vwmaccu | Op::Vwmacc | Op::Vwmaccsu | Op::Vwmaccus => Form::WideningMultiplyAdd,
         Op::Vmerge => Form::Merge,
         Op::Vmv => Form::Move,
-        Op::Vsaddu => Form::SingleWidth,
-        Op::Vsadd => Form::SingleWidth,
-        Op::Vssubu => Form::SingleWidth,
-        Op::Vssub => Form::SingleWidth,
-        Op::Vaaddu => Form::SingleWidth,
-        Op::Vaadd => Form::SingleWidth,
-        Op::Vasubu => Form::SingleWidth,
-        Op::Vasub => Form::SingleWidth,
-        Op::Vsmul => Form::High,
-        Op::Vssrl => Form::Shift,
-        Op::Vssra => Form::Shift,
-        Op::Vnclipu => Form::Narrowing,
-        Op::Vnclip => Form::Narrowing,
-        Op::Vmand => Form::MaskLogical,
-        Op::Vmnand => Form::MaskLogical,
-        Op::Vmandn => Form::MaskLogical,
-        Op::Vmxor => Form::MaskLogical,
-        Op::Vmor => Form::MaskLogical,
-        Op::Vmnor => Form::MaskLogical,
-        Op::Vmorn => Form::MaskLogical,
-        Op::Vmxnor => Form::MaskLogical,
+        Op::Vmand
+        | Op::Vmnand
+        | Op::Vmandn
+        | Op::Vmxor
+        | Op::Vmor
+        | Op::Vmnor
+        | Op::Vmorn
+        | Op::Vmxnor => Form::MaskLogical,
     }
 }
 
@@ -365,6 +339,5 @@ pub fn shape_of(op: Op) -> Shape
 pub fn largest_sew(op: Op) -> u64
     ensures { result ≡ largest_sew op }
 {
-    let shape = shape_of(op);
-    shape.largest
+    shape_of(op).largest
 }

@@ -7,8 +7,6 @@ use native.Mathlib.Numerals.{add-one}
 use native.Mathlib.Omega.{arith}
 use lib.ListN.{length}
 use lib.Dec.{eqb}
-use mir.Syntax.{w64}
-use mir.Val.{Fits}
 use Rattle.width.specs.Width.{flag}
 use Rattle.decode.specs.declared.PackOp.{PackOp}
 use Rattle.decode.specs.declared.PackOp.TheVariants.{Viota, Vcompress}
@@ -22,30 +20,11 @@ use Rattle.machine.specs.OneTurn.{set_at, population_of, set_below, packs, packe
 use Rattle.machine.proofs.Writing.{Written, written_none, written-more, written_all}
 use Rattle.packing.specs.Packable.{Reachable, packed_at, KeepsRead, Packable}
 
--- ---- one element, by the operation
-
-pub packed-by : (vlenb : ℕ) (file file' : List ℕ) (p : Packing) (i n : ℕ) (op v : PackOp) → op ≡ v → file' ≡ packed_at vlenb file p i n v
-    → file' ≡ packed_at vlenb file p i n op
-packed-by vlenb file file' p i n op v e h = rw e h
-
--- vcompress.vm goes by the bit as the code has found it
-pub compressed-by : (vlenb : ℕ) (file file' : List ℕ) (p : Packing) (i n : ℕ) (op : PackOp) (t : Bool) → op ≡ Vcompress
-    → t ≡ set_at vlenb file p.masked p.mask i
-    → file' ≡ cond t (with_element vlenb file p.vd.reg p.vd.eew n (value_of vlenb file p.elements i)) file
-    → file' ≡ packed_at vlenb file p i n op
-compressed-by vlenb file file' p i n op t e q h = packed-by vlenb file file' p i n op Vcompress e (h ∙ rw q)
-
-pub counted : (n x : ℕ) (t a : Bool) → x ≡ flag t → t ≡ a → n + x ≡ n + flag a
-counted n x t a e q = rw (e, q)
-
 -- ---- the population of the first i
 
 flag-le : (t : Bool) → flag t ≤ 1
 flag-le true = omega arith
 flag-le false = omega arith
-
-pub next_fits : (i n x : ℕ) (t : Bool) → x ≡ flag t → n ≤ i → i < 128 → Fits w64 (n + x)
-next_fits i n x t e l m = record { fits = omega (arith, flag-le t) }
 
 module _ (vlenb : ℕ) (file : List ℕ) (masked : Bool) (reg : ℕ) where
   population-more : (i : ℕ) → population_of vlenb file masked reg (i + 1)

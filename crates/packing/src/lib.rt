@@ -11,6 +11,7 @@ ghost use Rattle.packing.specs.Packable.{Reachable, packed_at, Packable};
 
 use decode::PackOp;
 use plan::Packing;
+use width::Eew;
 
 // viota.m: element i gets n, how many bits are set below it, if it is active.
 fn count_into(registers: &mut [u8], vlenb: usize, p: Packing, i: usize, n: usize)
@@ -21,7 +22,10 @@ fn count_into(registers: &mut [u8], vlenb: usize, p: Packing, i: usize, n: usize
 {
     let vd = p.vd;
     if execute::active(registers, vlenb, p.masked, i) {
-        let z = width::low(vd.eew as u64, n as u64);
+        let eew = Eew {
+            bits: vd.eew as u64,
+        };
+        let z = eew.low(n as u64);
         layout::write_element(registers, vlenb, vd.reg, vd.eew, i, z);
     }
 }
@@ -50,17 +54,12 @@ fn step(registers: &mut [u8], vlenb: usize, p: Packing, i: usize, n: usize) -> u
 {
     let op = p.op;
     let set = execute::set_at(registers, vlenb, p.masked, p.mask, i);
-    let next = n + width::flagged(set) as usize;
+    let next = n + usize::from(set);
     match op {
-        PackOp::Viota => {
-            count_into(registers, vlenb, p, i, n);
-            next
-        }
-        PackOp::Vcompress => {
-            pack_into(registers, vlenb, p, set, i, n);
-            next
-        }
+        PackOp::Viota => count_into(registers, vlenb, p, i, n),
+        PackOp::Vcompress => pack_into(registers, vlenb, p, set, i, n),
     }
+    next
 }
 
 // The one turn of viota.m or vcompress.vm. The destination overlaps no source, so each is read as it was before.
@@ -69,9 +68,7 @@ pub fn pack(registers: &mut [u8], vlenb: usize, p: Packing, vl: usize)
     ensures { registers.new ≡ packed_file vlenb registers.old p vl }
 {
     let mut n: usize = 0;
-    let mut i: usize = 0;
-    while i < vl {
+    for i in 0..vl {
         n = step(registers, vlenb, p, i, n);
-        i += 1;
     }
 }

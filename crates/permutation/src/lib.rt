@@ -2,9 +2,8 @@
 
 #![tactic(auto)]
 
-ghost use Rattle.std.specs.Prelude.{◌≡◌, false, cond, List, ℕ, ◌+◌, ◌-◌, ◌≤◌, ◌<◌, length, eqb};
+ghost use Rattle.std.specs.Prelude.{◌≡◌, false, cond, List, ℕ, ◌+◌, ◌-◌, ◌≤◌, ◌<◌, length, eqb, Ok};
 ghost use Rattle.control.specs.declared.Control.{Control};
-ghost use Rattle.access.specs.declared.AccessTest.TheVariants.{Granted};
 ghost use Rattle.plan.specs.declared.Action.TheVariants as Act;
 ghost use Rattle.machine.specs.Effect.{vs2_at, stays_at, permuted_of, permuting, effect_of};
 ghost use Rattle.execute.specs.Step.{ReadInside, Ready, Permutable, core_at, Did};
@@ -12,6 +11,7 @@ ghost use Rattle.execute.specs.Step.{ReadInside, Ready, Permutable, core_at, Did
 use control::Board;
 use decode::PermutationOp;
 use plan::{Elementwise, Permute, Read};
+use width::Eew;
 
 // Element k of vs2, and 0 from VLMAX on.
 fn vs2_at(registers: &[u8], vlenb: usize, vs2: Read, vlmax: u64, k: u64) -> u64
@@ -62,15 +62,7 @@ fn slid_1down(registers: &[u8], vlenb: usize, vs2: Read, vlmax: u64, vl: u64, x:
 fn stays(op: PermutationOp, x: u64, i: u64) -> bool
     ensures { result ≡ stays_at op x i }
 {
-    match op {
-        PermutationOp::Vid => false,
-        PermutationOp::Vslideup => i < x,
-        PermutationOp::Vslidedown => false,
-        PermutationOp::Vslide1up => false,
-        PermutationOp::Vslide1down => false,
-        PermutationOp::Vrgather => false,
-        PermutationOp::Vrgatherei16 => false,
-    }
+    matches!(op, PermutationOp::Vslideup) && i < x
 }
 
 // What element i gets, where x is the offset, its index, or the scalar that is put in.
@@ -82,13 +74,14 @@ fn permuted(registers: &[u8], vlenb: usize, e: Elementwise, p: Permute, x: u64, 
     let vs2 = e.vs2;
     let vlmax = p.vlmax;
     match op {
-        PermutationOp::Vid => width::low(p.sew, i),
+        PermutationOp::Vid => Eew { bits: p.sew }.low(i),
         PermutationOp::Vslideup => vs2_at(registers, vlenb, vs2, vlmax, i - x),
         PermutationOp::Vslidedown => slid_down(registers, vlenb, vs2, vlmax, x, i),
         PermutationOp::Vslide1up => slid_1up(registers, vlenb, vs2, vlmax, x, i),
         PermutationOp::Vslide1down => slid_1down(registers, vlenb, vs2, vlmax, e.end, x, i),
-        PermutationOp::Vrgather => vs2_at(registers, vlenb, vs2, vlmax, x),
-        PermutationOp::Vrgatherei16 => vs2_at(registers, vlenb, vs2, vlmax, x),
+        PermutationOp::Vrgather | PermutationOp::Vrgatherei16 => {
+            vs2_at(registers, vlenb, vs2, vlmax, x)
+        }
     }
 }
 
@@ -96,7 +89,7 @@ fn permuted(registers: &[u8], vlenb: usize, e: Elementwise, p: Permute, x: u64, 
 fn permute(registers: &mut [u8], vlenb: usize, e: Elementwise, p: Permute, i: usize)
     requires { Ready (length registers.old) vlenb e i × Permutable (length registers.old) vlenb e p i }
     ensures { (memory x : List ℕ) (c : Control) → Did vlenb (permuting vlenb registers.old e p i)
-        (core_at registers.old memory x c) Granted (core_at registers.new memory x c) }
+        (core_at registers.old memory x c) (Ok tt) (core_at registers.new memory x c) }
 {
     let vs1 = e.vs1;
     let dest = e.dest;
@@ -115,7 +108,7 @@ pub fn element(registers: &mut [u8], board: Board, e: Elementwise, p: Permute, i
         × (Permutable (length registers.old) board.vlenb e p i × (e.action ≡ Act.Permute p)) }
     ensures { (rights memory x : List ℕ) (c : Control) → Did board.vlenb
         (effect_of board rights (core_at registers.old memory x c) e i)
-        (core_at registers.old memory x c) Granted (core_at registers.new memory x c) }
+        (core_at registers.old memory x c) (Ok tt) (core_at registers.new memory x c) }
 {
     let vlenb = board.vlenb as usize;
     if !execute::active(registers, vlenb, e.masked, i) {

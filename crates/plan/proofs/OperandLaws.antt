@@ -1,10 +1,11 @@
 -- Operands, from what the code has computed: one law for each arm, over plain variables; and the bounds that they need.
 use Prim.Native.Nat.{ℕ, ◌%◌, ◌^◌, ◌≤◌}
-use mathlib.Core.Path.{◌≡◌, sym, ap, subst, ◌∙◌}
+use mathlib.Core.Path.{◌≡◌, refl, sym, ap, subst, ◌∙◌}
+use mathlib.Core.Logic.{◌⊎◌, ⊎_elim}
 use mathlib.Core.Bool.{Bool, cond}
 use mathlib.Core.List.{List}
 use native.Mathlib.Omega.{arith}
-use Rattle.width.specs.Width.{Width, signed, wrap}
+use Rattle.width.specs.Width.{signed, wrap}
 use Rattle.operation.specs.declared.Size.{Size}
 use Rattle.operation.specs.declared.Size.TheVariants.{Absent, Bit, Eighth, Quarter, Half, Single, Double}
 use Rattle.operation.specs.Shape.{eew_of}
@@ -43,9 +44,6 @@ sew-small v s e = omega (arith, sew-le v)
 pub lmul8-most : (v m : ℕ) → m ≡ lmul8_of v → m ≤ 64
 lmul8-most v m e = omega (arith, lmul8-le v)
 
-pub width_is : (v s : ℕ) → s ≡ sew_of v → sew_of v ≤ 64 → Width s
-width_is v s e h = record { some = sew-some v s e; most = omega arith }
-
 eew-le : (z : Size) (s : ℕ) → s ≤ 1024 → eew_of z s ≤ 2048
 eew-le Absent s h = omega arith
 eew-le Bit s h = omega arith
@@ -61,11 +59,17 @@ eew-most v z s e p q = subst (λ (n : ℕ). n ≤ 2048) (sym q) (eew-le z s (sew
 -- ---- operands of a vector
 
 -- in the arm of a size t that is a group's
-pub in_group : (v reg s eew : ℕ) (z t : Size) (g : Group) → z ≡ t → s ≡ sew_of v → eew ≡ eew_of z s → g ≡ group_at v eew reg
-    → R.Element (group_at v (eew_of t (sew_of v)) reg) ≡ read_at v t reg → R.Element g ≡ read_at v z reg
-in_group v reg s eew z t g e p q h k =
-    between read_at v z t reg (R.Element g) e
-    (ap R.Element (h ∙ ap (λ (n : ℕ). group_at v n reg) (q ∙ ap (eew_of z) p ∙ ap (λ (y : Size). eew_of y (sew_of v)) e)) ∙ k)
+pub in_group : (v reg s eew : ℕ) (z : Size) (g : Group)
+    → (z ≡ Eighth) ⊎ ((z ≡ Quarter) ⊎ ((z ≡ Half) ⊎ ((z ≡ Single) ⊎ (z ≡ Double)))) → s ≡ sew_of v → eew ≡ eew_of z s
+    → g ≡ group_at v eew reg → R.Element g ≡ read_at v z reg
+unfolding read_at
+in_group v reg s eew z g e p q h =
+    ⊎_elim (is Eighth refl) (⊎_elim (is Quarter refl) (⊎_elim (is Half refl) (⊎_elim (is Single refl) (is Double refl)))) e
+  where
+    is : (t : Size) → R.Element (group_at v (eew_of t (sew_of v)) reg) ≡ read_at v t reg → z ≡ t → R.Element g ≡ read_at v z reg
+    is t k e =
+        between read_at v z t reg (R.Element g) e
+        (ap R.Element (h ∙ ap (λ (n : ℕ). group_at v n reg) (q ∙ ap (eew_of z) p ∙ ap (λ (y : Size). eew_of y (sew_of v)) e)) ∙ k)
 
 -- ---- the second source
 

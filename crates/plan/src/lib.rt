@@ -2,9 +2,8 @@
 
 #![tactic(auto)]
 
-ghost use Rattle.std.specs.Prelude.{◌≡◌, ◌≤◌, ◌<◌, length, cond};
+ghost use Rattle.std.specs.Prelude.{◌≡◌, ◌≤◌, ◌<◌, cond};
 ghost use Rattle.width.specs.Width.{signed, wrap};
-ghost use Rattle.control.specs.Board.{Valid};
 ghost use Rattle.control.specs.Vtype.{sew_of};
 ghost use Rattle.decode.specs.Fields.{SourceFits, ArithmeticFits, PermutationFits, AccessFits, Fits};
 ghost use Rattle.plan.specs.declared.Read.TheVariants.{Constant};
@@ -25,6 +24,7 @@ use decode::{
 use fixed::Vxrm;
 use group::Group;
 use operation::{Op, Size, V0};
+use width::Eew;
 
 // Where an operand's element comes from: the same number at every index, an element of a register group, or a bit of a mask register.
 #[derive(Clone, Copy)]
@@ -128,7 +128,8 @@ pub enum OneTurn {
     ScalarMove(ScalarMove),
 }
 
-// What a decoded word means: nothing, something that takes one turn, or elements.
+// What a decoded word means: nothing, something that takes one turn, or elements. `Illegal` is one of the three and no Option around two:
+// each match on a plan names what it gives of it (`legal_of`, `plan_turn`).
 #[derive(Clone, Copy)]
 pub enum Plan {
     Illegal,
@@ -172,11 +173,9 @@ fn read_at(vtype: u64, size: Size, reg: usize) -> Read
     match size {
         Size::Absent => Read::Constant(0),
         Size::Bit => Read::Bit(reg),
-        Size::Eighth => Read::Element(group),
-        Size::Quarter => Read::Element(group),
-        Size::Half => Read::Element(group),
-        Size::Single => Read::Element(group),
-        Size::Double => Read::Element(group),
+        Size::Eighth | Size::Quarter | Size::Half | Size::Single | Size::Double => {
+            Read::Element(group)
+        }
     }
 }
 
@@ -202,8 +201,8 @@ fn group_of(read: Read) -> Group
 }
 
 // x0 reads 0.
-pub fn scalar(x: &[u64], r: usize) -> u64
-    requires { (length x.now ≡ 32) × (r < 32) }
+pub fn scalar(x: &[u64; 32], r: usize) -> u64
+    requires { r < 32 }
     ensures { result ≡ scalar_of x.now r }
 {
     if r == 0 {
@@ -213,25 +212,27 @@ pub fn scalar(x: &[u64], r: usize) -> u64
 }
 
 // A 5-bit immediate at SEW: sign-extended, unless it is an unsigned one.
-fn immediate(sew: u64, unsigned: bool, n: u64) -> u64
-    requires { (1 ≤ sew) × ((sew ≤ 64) × (n < 32)) }
-    ensures { result ≡ cond unsigned n (wrap sew (signed 5 n)) }
+fn immediate(sew: Eew, unsigned: bool, n: u64) -> u64
+    requires { n < 32 }
+    ensures { result ≡ cond unsigned n (wrap sew.bits (signed 5 n)) }
 {
     if unsigned {
         return n;
     }
-    integer::extend(5, sew, n)
+    integer::extend(Eew { bits: 5 }, sew, n)
 }
 
 // The second source.
-fn second(x: &[u64], vtype: u64, size: Size, unsigned: bool, source: Source) -> Read
-    requires { (length x.now ≡ 32) × ((sew_of vtype ≤ 64) × SourceFits source) }
+fn second(x: &[u64; 32], vtype: u64, size: Size, unsigned: bool, source: Source) -> Read
+    requires { (sew_of vtype ≤ 64) × SourceFits source }
     ensures { result ≡ second_of x.now vtype size unsigned source }
 {
-    let sew = Control::sew(vtype);
+    let sew = Eew {
+        bits: Control::sew(vtype),
+    };
     match source {
         Source::Vector(r) => read_at(vtype, size, r),
-        Source::Scalar(r) => Read::Constant(width::low(sew, scalar(x, r))),
+        Source::Scalar(r) => Read::Constant(sew.low(scalar(x, r))),
         Source::Immediate(n) => Read::Constant(immediate(sew, unsigned, n)),
     }
 }
@@ -241,16 +242,9 @@ fn v0_read(v0: V0, masked: bool) -> Read
     ensures { result ≡ v0_read v0 masked }
 {
     match v0 {
-        V0::Masks => Read::Constant(0),
         V0::Operand => Read::Bit(0),
-        V0::MaybeOperand => {
-            if masked {
-                Read::Bit(0)
-            } else {
-                Read::Constant(0)
-            }
-        }
-        V0::Unused => Read::Constant(0),
+        V0::MaybeOperand => read_if(masked, Read::Bit(0)),
+        V0::Masks | V0::Unused => Read::Constant(0),
     }
 }
 
@@ -258,17 +252,12 @@ fn v0_read(v0: V0, masked: bool) -> Read
 fn v0_masks(v0: V0, masked: bool) -> bool
     ensures { result ≡ v0_masks v0 masked }
 {
-    match v0 {
-        V0::Masks => masked,
-        V0::Operand => false,
-        V0::MaybeOperand => false,
-        V0::Unused => false,
-    }
+    masked & matches!(v0, V0::Masks)
 }
 
 // An arithmetic instruction.
-fn computing(x: &[u64], control: Control, a: Arithmetic) -> Elementwise
-    requires { (length x.now ≡ 32) × ((sew_of control.vtype ≤ 64) × ArithmeticFits a) }
+fn computing(x: &[u64; 32], control: Control, a: Arithmetic) -> Elementwise
+    requires { (sew_of control.vtype ≤ 64) × ArithmeticFits a }
     ensures { result ≡ computing_of x.now control a }
 {
     let op = a.op;
@@ -286,7 +275,7 @@ fn computing(x: &[u64], control: Control, a: Arithmetic) -> Elementwise
     let dest = group_of(result);
     let mask = v0_read(v0, a.masked);
     let sew = Control::sew(vtype);
-    let vxrm = fixed::vxrm_of(control.vxrm);
+    let vxrm = Vxrm::from(control.vxrm);
     Elementwise {
         dest,
         vs2,
@@ -303,8 +292,8 @@ fn computing(x: &[u64], control: Control, a: Arithmetic) -> Elementwise
 // ---- permutations
 
 // An offset or an index, not cut to SEW.
-fn index_of(x: &[u64], vtype: u64, eew: u64, source: Source) -> Read
-    requires { (length x.now ≡ 32) × ((eew ≤ 2048) × SourceFits source) }
+fn index_of(x: &[u64; 32], vtype: u64, eew: u64, source: Source) -> Read
+    requires { (eew ≤ 2048) × SourceFits source }
     ensures { result ≡ index_of x.now vtype eew source }
 {
     match source {
@@ -320,35 +309,36 @@ fn moved_elements(vtype: u64, op: PermutationOp, reg: usize) -> Read
 {
     match op {
         PermutationOp::Vid => Read::Constant(0),
-        PermutationOp::Vslideup => read_at(vtype, Size::Single, reg),
-        PermutationOp::Vslidedown => read_at(vtype, Size::Single, reg),
-        PermutationOp::Vslide1up => read_at(vtype, Size::Single, reg),
-        PermutationOp::Vslide1down => read_at(vtype, Size::Single, reg),
-        PermutationOp::Vrgather => read_at(vtype, Size::Single, reg),
-        PermutationOp::Vrgatherei16 => read_at(vtype, Size::Single, reg),
+        _ => read_at(vtype, Size::Single, reg),
     }
 }
 
 // The second operand of a permutation.
-fn moved_by(x: &[u64], vtype: u64, op: PermutationOp, source: Source) -> Read
-    requires { (length x.now ≡ 32) × ((sew_of vtype ≤ 64) × SourceFits source) }
+fn moved_by(x: &[u64; 32], vtype: u64, op: PermutationOp, source: Source) -> Read
+    requires { (sew_of vtype ≤ 64) × SourceFits source }
     ensures { result ≡ moved_by x.now vtype op source }
 {
     let sew = Control::sew(vtype);
     match op {
         PermutationOp::Vid => Read::Constant(0),
-        PermutationOp::Vslideup => index_of(x, vtype, sew, source),
-        PermutationOp::Vslidedown => index_of(x, vtype, sew, source),
-        PermutationOp::Vslide1up => second(x, vtype, Size::Single, true, source),
-        PermutationOp::Vslide1down => second(x, vtype, Size::Single, true, source),
-        PermutationOp::Vrgather => index_of(x, vtype, sew, source),
+        PermutationOp::Vslideup | PermutationOp::Vslidedown | PermutationOp::Vrgather => {
+            index_of(x, vtype, sew, source)
+        }
+        PermutationOp::Vslide1up | PermutationOp::Vslide1down => {
+            second(x, vtype, Size::Single, true, source)
+        }
         PermutationOp::Vrgatherei16 => index_of(x, vtype, 16, source),
     }
 }
 
 // A permutation that goes element by element.
-fn permuting(board: Board, x: &[u64], control: Control, a: PermutationInstruction) -> Elementwise
-    requires { Valid board × ((length x.now ≡ 32) × ((sew_of control.vtype ≤ 64) × PermutationFits a)) }
+fn permuting(
+    board: Board,
+    x: &[u64; 32],
+    control: Control,
+    a: PermutationInstruction,
+) -> Elementwise
+    requires { (sew_of control.vtype ≤ 64) × PermutationFits a }
     ensures { result ≡ permuting_of board x.now control a }
 {
     let op = a.op;
@@ -431,8 +421,8 @@ fn register_at(eew: usize, reg: usize) -> Group
 }
 
 // A load or a store, by its addressing mode.
-fn transferring(board: Board, x: &[u64], control: Control, a: Access) -> Elementwise
-    requires { Valid board × ((length x.now ≡ 32) × ((control.vl ≤ 128) × AccessFits a)) }
+fn transferring(board: Board, x: &[u64; 32], control: Control, a: Access) -> Elementwise
+    requires { (control.vl ≤ 128) × AccessFits a }
     ensures { result ≡ transferring_of board x.now control a }
 {
     let mode = a.mode;
@@ -477,16 +467,8 @@ fn scalar_size(op: ReductionOp) -> Size
     ensures { result ≡ scalar_size op }
 {
     match op {
-        ReductionOp::Vredsum => Size::Single,
-        ReductionOp::Vredand => Size::Single,
-        ReductionOp::Vredor => Size::Single,
-        ReductionOp::Vredxor => Size::Single,
-        ReductionOp::Vredminu => Size::Single,
-        ReductionOp::Vredmin => Size::Single,
-        ReductionOp::Vredmaxu => Size::Single,
-        ReductionOp::Vredmax => Size::Single,
-        ReductionOp::Vwredsumu => Size::Double,
-        ReductionOp::Vwredsum => Size::Double,
+        ReductionOp::Vwredsumu | ReductionOp::Vwredsum => Size::Double,
+        _ => Size::Single,
     }
 }
 
@@ -564,9 +546,8 @@ fn scalar_moving(vtype: u64, a: ScalarMoveInstruction) -> ScalarMove
 // ---- every decoded word
 
 // The plan of a decoded word.
-pub fn plan_of(board: Board, x: &[u64], control: Control, instruction: Instruction) -> Plan
-    requires { Valid board
-        × ((length x.now ≡ 32) × ((sew_of control.vtype ≤ 64) × ((control.vl ≤ 128) × Fits instruction))) }
+pub fn plan_of(board: Board, x: &[u64; 32], control: Control, instruction: Instruction) -> Plan
+    requires { (sew_of control.vtype ≤ 64) × ((control.vl ≤ 128) × Fits instruction) }
     ensures { result ≡ plan_of board x.now control instruction }
 {
     match instruction {

@@ -4,7 +4,6 @@ use mathlib.Core.Path.{◌≡◌, refl, sym, ◌∙◌}
 use mathlib.Core.Bool.{Bool, true, false, cond}
 use mathlib.Core.List.{List, ◌∷◌, foldl}
 use native.Mathlib.Numerals.{add-one}
-use native.Mathlib.Nat.{sub-zero}
 use native.Mathlib.Omega.{arith}
 use borrow.Author.Tests.{ne_eqb}
 use Rattle.decode.specs.declared.ReductionOp.{ReductionOp}
@@ -12,9 +11,9 @@ use Rattle.layout.specs.Layout.{element_at, with_element}
 use Rattle.plan.specs.declared.Reduction.{Reduction}
 use Rattle.plan.specs.Plan.{scalar_eew}
 use Rattle.machine.specs.Effect.{active_of}
-use Rattle.machine.specs.OneTurn.{joined_by, active_elements, scalar_in, elements_in, reduction_of, reduced_file}
+use Rattle.machine.specs.OneTurn.{joined_by, active_elements, elements_in, reduction_of, reduced_file}
 use Rattle.reduction.specs.Fold.{FoldsUpward}
-use Rattle.reduction.specs.Reducible.{Joinable, Reachable, Reducible}
+use Rattle.reduction.specs.Reducible.{Reachable}
 use Rattle.reduction.proofs.Operators.{joined-lt}
 
 pub folds-upward : FoldsUpward
@@ -29,11 +28,6 @@ folds-upward f active element acc i n = go (active i)
 
 -- ---- one element
 
--- an element as it was read, of the width of its register
-pub joinable : (size vlenb : ℕ) (r : Reduction) (i acc x : ℕ) → Reachable size vlenb r i → acc < 2 ^ scalar_eew r.op r.sew
-    → x < 2 ^ r.vs2.eew → Joinable r.op r.sew acc x
-joinable size vlenb r i acc x h a k = record { least = h.least; most = h.most; acc-fits = a; x_fits = rw h.width at k }
-
 pub active-step : (t a : Bool) (op : ReductionOp) (sew acc x y z : ℕ) → t ≡ a → t ≡ true → x ≡ y → z ≡ joined_by op sew acc x
     → z ≡ cond a (joined_by op sew acc y) acc
 active-step t a op sew acc x y z e h p q = rw (← e, h, ← p) q
@@ -42,20 +36,13 @@ pub active-fits : (size vlenb : ℕ) (r : Reduction) (i acc x z : ℕ) → Reach
     → x < 2 ^ r.vs2.eew → z ≡ joined_by r.op r.sew acc x → z < 2 ^ scalar_eew r.op r.sew
 active-fits size vlenb r i acc x z h a k e = rw e (joined-lt r.op r.sew acc x a (rw h.width at k))
 
-pub inactive-step : (t a : Bool) (acc y : ℕ) → t ≡ a → t ≡ false → acc ≡ cond a y acc
-inactive-step t a acc y e h = rw (← e, h)
-
 -- ---- while elements are folded: those below i have been
 
 module _ (vlenb : ℕ) (file : List ℕ) (r : Reduction) (vl : ℕ) where
   pub record Folding (i acc : ℕ) : Type 0 where
-    pub passed : i ≤ vl
     pub fits : acc < 2 ^ scalar_eew r.op r.sew
     -- the others, from here, give what all give
     pub rest : foldl (joined_by r.op r.sew) acc (elements_in vlenb file r i (vl - i)) ≡ reduction_of vlenb file r vl
-
-  pub folding-none : (size acc : ℕ) → Reducible size vlenb r vl → acc ≡ scalar_in vlenb file r → acc < 2 ^ r.vs1.eew → Folding 0 acc
-  folding-none size acc k e h = record { passed = omega arith; fits = rw k.accumulator at h; rest = rw (e, sub-zero vl) }
 
   pub folding-more : (i acc z : ℕ) → Folding i acc → i < vl
       → z ≡ cond (active_of vlenb file r.masked i)
@@ -64,7 +51,6 @@ module _ (vlenb : ℕ) (file : List ℕ) (r : Reduction) (vl : ℕ) where
   folding-more i acc z g l e h =
       let s : vl - i ≡ suc (vl - suc i) = omega arith in
       record {
-        passed = omega arith;
         fits = h;
         rest =
             rw (e, add-one i)
@@ -72,9 +58,6 @@ module _ (vlenb : ℕ) (file : List ℕ) (r : Reduction) (vl : ℕ) where
             (element_at vlenb file r.vs2.reg r.vs2.eew) acc i (vl - suc i))
             ∙ (rw s at g.rest));
       }
-
-  pub folding-reachable : (size i : ℕ) → Reducible size vlenb r vl → i < vl → Reachable size vlenb r i
-  folding-reachable size i h l = h.elements i l
 
   pub folding-all : (i acc : ℕ) → Folding i acc → vl ≤ i → acc ≡ reduction_of vlenb file r vl
   unfolding active_elements

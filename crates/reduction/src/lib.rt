@@ -11,20 +11,23 @@ ghost use Rattle.reduction.specs.Reducible.{Joinable, Reachable, Reducible};
 
 use decode::ReductionOp;
 use plan::Reduction;
+use width::Eew;
 
 // An accumulator and an element, joined.
+#[tactic(auto, using(crate::proofs::Operators::within))]
 fn joined(op: ReductionOp, sew: u64, acc: u64, x: u64) -> u64
     requires { Joinable op sew acc x }
     ensures { result ≡ joined_by op sew acc x }
 {
+    let sew = Eew { bits: sew };
     match op {
         ReductionOp::Vredsum => integer::add(sew, acc, x),
-        ReductionOp::Vredand => integer::and(sew, acc, x),
-        ReductionOp::Vredor => integer::or(sew, acc, x),
-        ReductionOp::Vredxor => integer::xor(sew, acc, x),
-        ReductionOp::Vredminu => integer::minu(sew, acc, x),
+        ReductionOp::Vredand => integer::and(sew.bits, acc, x),
+        ReductionOp::Vredor => integer::or(sew.bits, acc, x),
+        ReductionOp::Vredxor => integer::xor(sew.bits, acc, x),
+        ReductionOp::Vredminu => integer::minu(sew.bits, acc, x),
         ReductionOp::Vredmin => integer::min(sew, acc, x),
-        ReductionOp::Vredmaxu => integer::maxu(sew, acc, x),
+        ReductionOp::Vredmaxu => integer::maxu(sew.bits, acc, x),
         ReductionOp::Vredmax => integer::max(sew, acc, x),
         ReductionOp::Vwredsumu => integer::waddu(sew, acc, x),
         ReductionOp::Vwredsum => integer::wadd_w(sew, acc, x),
@@ -54,10 +57,8 @@ fn fold(registers: &[u8], vlenb: usize, r: Reduction, vl: usize) -> u64
 {
     let vs1 = r.vs1;
     let mut acc = layout::read_element(registers, vlenb, vs1.reg, vs1.eew, 0);
-    let mut i: usize = 0;
-    while i < vl {
+    for i in 0..vl {
         acc = step(registers, vlenb, r, i, acc);
-        i += 1;
     }
     acc
 }

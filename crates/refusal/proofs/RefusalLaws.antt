@@ -7,10 +7,9 @@ use native.Mathlib.Omega.{arith}
 use borrow.Author.Tests.{leb-true, ltb-false, eqb-true, not-false}
 use lib.Dec.{leb}
 use lib.ListN.{length, get_or}
+use Rattle.std.specs.Prelude.{Result, Ok, Err, ⊤}
 use Rattle.laws.proofs.Apart.{both_left, both_right}
 use Rattle.answer.specs.declared.Answer.{Answer}
-use Rattle.answer.specs.declared.Verdict.{Verdict}
-use Rattle.answer.specs.declared.Verdict.TheVariants.{Accepted, Refused}
 use Rattle.control.specs.declared.Board.{Board}
 use Rattle.control.specs.declared.Control.{Control}
 use Rattle.control.specs.Control.{possible_of}
@@ -22,11 +21,11 @@ right_le (r ∷ rs) zero h = leb-true r 2 (both_left (leb r 2) (rights_fit rs) h
 right_le (r ∷ rs) (suc k) h = right_le rs k (both_right (leb r 2) (rights_fit rs) h)
 
 -- a test that did not refuse, and those after it
-test-passed : (t : Bool) (a : Answer) (v : Verdict) → cond t (Refused a) v ≡ Accepted → t ≡ false
+test-passed : (t : Bool) (a : Answer) (v : Result ⊤ Answer) → cond t (Err a) v ≡ Ok tt → t ≡ false
 test-passed true a v h = cc
 test-passed false a v h = refl
 
-rest-passed : (t : Bool) (a : Answer) (v : Verdict) → cond t (Refused a) v ≡ Accepted → v ≡ Accepted
+rest-passed : (t : Bool) (a : Answer) (v : Result ⊤ Answer) → cond t (Err a) v ≡ Ok tt → v ≡ Ok tt
 rest-passed true a v h = cc
 rest-passed false a v h = h
 
@@ -41,6 +40,6 @@ pub record Acceptable (b : Board) (registers scalars memory : ℕ) (rights : Lis
   pub possible : possible_of b c ≡ true
 
 pub accepted-facts : (b : Board) (registers scalars memory : ℕ) (rights : List ℕ) (c : Control)
-    → refusal_of b registers scalars memory rights c ≡ Accepted → Acceptable b registers scalars memory rights c
+    → refusal_of b registers scalars memory rights c ≡ Ok tt → Acceptable b registers scalars memory rights c
 unfolding refusal_of
 accepted-facts b registers scalars memory rights c h = search passed

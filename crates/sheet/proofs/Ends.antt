@@ -1,6 +1,6 @@
 -- Each word of a sheet ends: the 129 turns that the definition takes at most are always enough. So are the first 1,000 bytes of a sheet.
 use Prim.Native.Nat.{ℕ, zero, suc, ◌+◌, ◌*◌, ◌≤◌, ◌<◌}
-use mathlib.Core.Path.{◌≡◌, refl, sym, ap, ◌∙◌}
+use mathlib.Core.Path.{◌≡◌, sym, ap, ◌∙◌}
 use mathlib.Core.Logic.{⊎_elim}
 use mathlib.Core.Bool.{true, false}
 use mathlib.Core.List.{List}
@@ -10,13 +10,11 @@ use lib.Dec.{eqb, lit≤}
 use lib.ListN.{take}
 use borrow.Author.Tests.{eqb-true, eqb-false, ne_eqb}
 use Rattle.laws.proofs.Chain.{either}
-use Rattle.answer.specs.declared.Answer.{Answer}
-use Rattle.answer.specs.declared.Answer.TheVariants.{Finished, Paused, Illegal, LoadMisaligned, LoadAccess, StoreMisaligned, StoreAccess}
-use Rattle.answer.specs.declared.Answer.TheVariants.{BadRegisters, BadScalars, BadMemory, BadRights, BadControl, NoGroup}
+use Rattle.answer.specs.declared.Answer.TheVariants.{Paused}
 use Rattle.answer.specs.Answer.{number_of}
 use Rattle.control.specs.declared.Board.{Board}
 use Rattle.control.specs.Board.{Valid, base}
-use Rattle.control.proofs.Laws.{base-valid, possible-apart}
+use Rattle.control.proofs.Laws.{valid, possible-apart}
 use Rattle.plan.specs.declared.Plan.{Plan}
 use Rattle.turn_theory.specs.Turn.{Semantics, TurnEnd}
 use Rattle.turn_theory.proofs.Laws.{turn-cases}
@@ -27,24 +25,10 @@ use Rattle.machine.proofs.Lawful.{facts}
 use Rattle.machine.proofs.Demands.{demand-3}
 use Rattle.sheet_read.specs.Sheet.{allow_of, first_bad, sheet_of}
 use Rattle.sheet_read.proofs.Enough.{enough, enough-said}
+use Rattle.sheet.proofs.RunLaws.{paused-is}
 use Rattle.sheet.specs.Run.{Progress, joined, turned, is_paused, more_turns, begun, most_turns, word_of, printed}
 
 -- ---- a turn that pauses
-
-paused-is : (a : Answer) → number_of a ≡ 1 → a ≡ Paused
-paused-is Finished h = absurd (omega arith)
-paused-is Paused h = refl
-paused-is Illegal h = absurd (omega arith)
-paused-is LoadMisaligned h = absurd (omega arith)
-paused-is LoadAccess h = absurd (omega arith)
-paused-is StoreMisaligned h = absurd (omega arith)
-paused-is StoreAccess h = absurd (omega arith)
-paused-is BadRegisters h = absurd (omega arith)
-paused-is BadScalars h = absurd (omega arith)
-paused-is BadMemory h = absurd (omega arith)
-paused-is BadRights h = absurd (omega arith)
-paused-is BadControl h = absurd (omega arith)
-paused-is NoGroup h = absurd (omega arith)
 
 module _ (b : Board) (word n : ℕ) (s : State) where
   abbrev v : ℕ
@@ -95,7 +79,7 @@ Suffices n p = number_of p.answer ≡ 1 → (1 ≤ n) × (most_turns ≤ p.state
 module _ (word allow : ℕ) (l : 1 ≤ allow) where
   one_less : (n : ℕ) (p : Progress) → most_turns ≤ p.state.control.vstart + suc n → Suffices n (joined p (turned word allow p.state))
   one_less n p h e =
-      let m = pause-moves base word allow p.state base-valid l (paused-is _ e) in
+      let m = pause-moves base word allow p.state (valid base) l (paused-is _ e) in
       (omega (arith, m.0), omega (arith, m.1))
 
   turns-end : (n : ℕ) (p : Progress) → Suffices n p → is_paused (more_turns n word allow p).answer ≡ false

@@ -3,126 +3,156 @@ use Prim.Native.Nat.{ℕ, zero, suc, ◌+◌, ◌-◌, ◌*◌, ◌≤◌, ◌<�
 use mathlib.Core.Path.{◌≡◌, refl, sym, ap, subst, ◌∙◌}
 use mathlib.Core.Bool.{false}
 use mathlib.Core.List.{List, [], ◌∷◌, ◌++◌}
-use lib.ListN.{length}
 use native.Mathlib.Nat.{add-zero}
 use native.Mathlib.Omega.{arith}
-use borrow.Author.Tests.{eq-eqb, ne_eqb}
+use borrow.Author.Tests.{ne_eqb}
+use Rattle.answer.specs.declared.Answer.{Answer}
 use Rattle.answer.specs.declared.Answer.TheVariants.{Finished, Paused}
 use Rattle.answer.specs.Answer.{number_of}
-use Rattle.control.specs.declared.Control.{Control}
 use Rattle.machine.specs.State.{State}
 use Rattle.machine.specs.declared.Turned.{Turned}
-use Rattle.machine.specs.Call.{given, left}
+use Rattle.machine.specs.Call.{left}
 use Rattle.machine.specs.Machine.{turn_of}
 use Rattle.control.specs.Board.{base}
-use Rattle.text.specs.Text.{Wrote}
+use Rattle.text.specs.declared.Text.{Text}
+use Rattle.text.specs.Text.{Adds}
 use Rattle.text.proofs.TextLaws.{both, nothing}
+use Rattle.sheet_read.specs.declared.Words.{Words}
 use Rattle.sheet_read.specs.Sheet.{word_at, word_length, words_at, after_words}
-use Rattle.sheet.specs.declared.Ran.{Ran}
-use Rattle.sheet.specs.Run.{Progress, from, report, turned, is_paused, more_turns, most_turns, word_of, is_finished, run_of}
-use Rattle.sheet.specs.Bounds.{report_bound, word_bound}
-use Rattle.sheet.specs.Left.{Leaves, Ended}
+use Rattle.sheet.specs.declared.Machine.{Machine}
+use Rattle.sheet.specs.Run.{Progress, from, joined, report, turned, is_paused, more_turns, most_turns, word_of, is_finished, run_of}
+use Rattle.sheet_read.specs.Listed.{Listed}
+use Rattle.sheet.specs.Bounds.{report_bound, word_bound, words_bound}
+use Rattle.sheet.specs.Left.{held, Leaves}
 
--- the lent parts are as long as at first
-abbrev pub AsLong : List ℕ → List ℕ → List ℕ → List ℕ → List ℕ → List ℕ → List ℕ → List ℕ → Type 0
-AsLong out₀ registers₀ scalars₀ memory₀ out registers scalars memory =
-    (length out ≡ length out₀)
-    × ((length registers ≡ length registers₀) × ((length scalars ≡ length scalars₀) × (length memory ≡ length memory₀)))
+-- ---- answers by their numbers
+
+pub paused-is : (a : Answer) → number_of a ≡ 1 → a ≡ Paused
+paused-is a h = grind arith
+
+finished-is : (a : Answer) → number_of a ≡ 0 → a ≡ Finished
+finished-is a h = grind arith
+
+not-paused : (a : Answer) → (a ≡ Paused → ⊥) → is_paused a ≡ false
+not-paused a h = ne_eqb (number_of a) 1 (λ e. h (paused-is a e))
+
+not-finished : (a : Answer) → (a ≡ Finished → ⊥) → is_finished a ≡ false
+not-finished a h = ne_eqb (number_of a) 0 (λ e. h (finished-is a e))
 
 -- ---- one turn
 
-pub turn-leaves : {out after : List ℕ} {at : ℕ} (next word allow : ℕ) (s : State) (t : Turned) (registers scalars memory rights : List ℕ)
+pub turn-leaves : {before after : Text} (word allow : ℕ) (s : State) (t : Turned) (registers scalars memory rights : List ℕ)
     → left t registers scalars memory rights ≡ turn_of base word allow s
-    → Wrote out at (report word t.answer t.place.wanted t.control) after next
-    → Leaves (turned word allow s) out at after (record { at = next; answer = t.answer; control = t.control })
-    registers scalars memory rights
-turn-leaves next word allow s t registers scalars memory rights e w = rw (← e) (record { wrote = w; answer = refl; state = refl })
+    → Adds before (report word t.answer t.place.wanted t.control) after
+    → Leaves (turned word allow s) before after
+    (record { registers = registers; scalars = scalars; memory = memory; rights = rights; control = t.control })
+turn-leaves word allow s t registers scalars memory rights e w = rw (← e) (record { wrote = w; state = refl })
+
+pub turn-answers : (word allow : ℕ) (s : State) (t : Turned) (registers scalars memory rights : List ℕ)
+    → left t registers scalars memory rights ≡ turn_of base word allow s → t.answer ≡ (turn_of base word allow s).answer
+turn-answers word allow s t registers scalars memory rights e = rw (← e)
 
 -- ---- one word
 
--- some turns of the word have been taken; at most `left` remain
-pub record Turning (word allow : ℕ) (first : State) (out₀ : List ℕ) (at₀ left : ℕ) (out : List ℕ) (r : Ran) (state : State) : Type 0 where
+-- n turns of the word have been taken, and each has paused
+pub record Turning (word allow : ℕ) (first : State) (before : Text) (n : ℕ) (now : Text) (m : Machine) : Type 0 where
   pub text : List ℕ
-  pub wrote : Wrote out₀ at₀ text out r.at
-  pub rest : word_of word allow first ≡ more_turns left word allow (record { text = text; answer = r.answer; state = state })
-  pub near : r.at + report_bound * left ≤ at₀ + word_bound
+  pub wrote : Adds before text now
+  pub rest : word_of word allow first ≡ more_turns (most_turns - n) word allow (record { text = text; answer = Paused; state = held m })
+  pub near : now.at ≤ before.at + report_bound * n
 
-module _ (word allow : ℕ) (first : State) (out₀ : List ℕ) (at₀ : ℕ) where
-  pub turning-none : (c : Control)
-      → Turning word allow first out₀ at₀ most_turns out₀ (record { at = at₀; answer = Paused; control = c }) first
-  unfolding word_of
-  turning-none c = record { text = []; wrote = nothing out₀ at₀; rest = refl; near = omega arith }
+pub turning-none : (word allow : ℕ) (t : Text) (m : Machine) → Turning word allow (held m) t 0 t m
+unfolding word_of
+turning-none word allow t m = record { text = []; wrote = nothing t; rest = refl; near = omega arith }
 
-  stopped : (left : ℕ) (p : Progress) → is_paused p.answer ≡ false → more_turns left word allow p ≡ p
-  unfolding more_turns
-  stopped zero p h = refl
-  stopped (suc n) p h = rw h
+-- a progress by another name of it
+left_by : {p q : Progress} {before after : Text} {m : Machine} → p ≡ q → Leaves q before after m → Leaves p before after m
+left_by {before = before} {after} {m} e l = subst (λ (p : Progress). Leaves p before after m) (sym e) l
 
-  left_by : {left : ℕ} {out : List ℕ} {r : Ran} {registers scalars memory rights : List ℕ}
-      → (t : Turning word allow first out₀ at₀ left out r (given registers scalars memory rights r.control))
-      → word_of word allow first ≡ record { text = t.text; answer = r.answer; state = given registers scalars memory rights r.control }
-      → Leaves (word_of word allow first) out₀ at₀ out r registers scalars memory rights
-  left_by {left} {out} {r} t e = record {
-    wrote = subst (λ (p : Progress). Wrote out₀ at₀ p.text out r.at) (sym e) t.wrote;
-    answer = ap (λ (p : Progress). p.answer) (sym e);
-    state = ap (λ (p : Progress). p.state) (sym e);
-  }
+answer_by : {p q : Progress} (a : Answer) → p ≡ q → a ≡ q.answer → a ≡ p.answer
+answer_by a e h = h ∙ ap (λ (p : Progress). p.answer) (sym e)
 
-  pub turning-more : (left number : ℕ) (out out' : List ℕ) (r r' : Ran)
-      (registers scalars memory rights registers' scalars' memory' : List ℕ)
-      → Turning word allow first out₀ at₀ left out r (given registers scalars memory rights r.control)
-      → 0 < left
-      → number ≡ number_of r.answer
-      → number ≡ 1
-      → Leaves (turned word allow (given registers scalars memory rights r.control)) out r.at out' r'
-      registers' scalars' memory' rights
-      → r'.at ≤ r.at + report_bound
-      → Turning word allow first out₀ at₀ (left - 1) out' r' (given registers' scalars' memory' rights r'.control)
-  unfolding more_turns
-  turning-more zero number out out' r r' registers scalars memory rights registers' scalars' memory' t g q h l n = absurd (omega arith)
-  turning-more (suc left) number out out' r r' registers scalars memory rights registers' scalars' memory' t g q h l n =
-      let e : suc left - 1 ≡ left = omega arith in
-      rw e (record {
-        text = t.text ++ (turned word allow (given registers scalars memory rights r.control)).text;
-        wrote = both t.wrote l.wrote;
-        rest = t.rest ∙ rw (eq-eqb (number_of r.answer) 1 (sym q ∙ h), l.answer, l.state);
-        near = omega (arith, t.near);
-      })
+stopped : (word allow left : ℕ) (p : Progress) → is_paused p.answer ≡ false → more_turns left word allow p ≡ p
+unfolding more_turns
+stopped word allow zero p h = refl
+stopped word allow (suc left) p h = rw h
 
-  -- it no longer pauses
-  pub turning-done : (left number : ℕ) (out : List ℕ) (r : Ran) (registers scalars memory rights : List ℕ)
-      → Turning word allow first out₀ at₀ left out r (given registers scalars memory rights r.control)
-      → number ≡ number_of r.answer
-      → (number ≡ 1 → ⊥)
-      → Leaves (word_of word allow first) out₀ at₀ out r registers scalars memory rights
-  turning-done left number out r registers scalars memory rights t q h =
-      left_by t (t.rest ∙ stopped left _ (ne_eqb (number_of r.answer) 1 (λ e. h (q ∙ e))))
+module _ (word allow : ℕ) (first : State) (before : Text) (n : ℕ) (now : Text) (m : Machine) (t : Turning word allow first before n now m)
+  where
+    -- the progress so far, and one turn more
+    so-far : Progress
+    so-far = record { text = t.text; answer = Paused; state = held m }
 
-  -- no turn is left
-  pub turning-last : (left : ℕ) (out : List ℕ) (r : Ran) (registers scalars memory rights : List ℕ)
-      → Turning word allow first out₀ at₀ left out r (given registers scalars memory rights r.control)
-      → left ≤ 0
-      → Leaves (word_of word allow first) out₀ at₀ out r registers scalars memory rights
-  unfolding more_turns
-  turning-last zero out r registers scalars memory rights t h = left_by t t.rest
-  turning-last (suc left) out r registers scalars memory rights t h = absurd (omega arith)
+    next-turn : n < most_turns
+        → word_of word allow first ≡ more_turns (most_turns - (n + 1)) word allow (joined so-far (turned word allow (held m)))
+    unfolding more_turns so-far
+    next-turn h =
+        let e : most_turns - n ≡ suc (most_turns - (n + 1)) = omega arith in
+        t.rest ∙ rw e
 
--- the same word under another name
-pub named : {out after registers scalars memory rights : List ℕ} {at : ℕ} {r : Ran} (word n allow : ℕ) (s : State) → word ≡ n
-    → Leaves (word_of word allow s) out at after r registers scalars memory rights
-    → Leaves (word_of n allow s) out at after r registers scalars memory rights
-named word n allow s e l = rw e at l
+    module _ {next : Text} {m' : Machine} (a : Answer) (h : n < most_turns) (l : Leaves (turned word allow (held m)) now next m')
+        (q : a ≡ (turned word allow (held m)).answer) (near : next.at ≤ now.at + report_bound) where
+      pub turning-more : a ≡ Paused → Turning word allow first before (n + 1) next m'
+      unfolding so-far
+      turning-more p =
+          let text : List ℕ = t.text ++ (turned word allow (held m)).text in
+          record {
+            text = text;
+            wrote = both t.wrote l.wrote;
+            rest = next-turn h
+                ∙ ap (more_turns (most_turns - (n + 1)) word allow)
+                (λ i. record { text = text; answer = (sym q ∙ p) i; state = sym l.state i });
+            near = omega (arith, t.near);
+          }
+
+      -- it no longer pauses
+      ends-here : (a ≡ Paused → ⊥) → word_of word allow first ≡ joined so-far (turned word allow (held m))
+      ends-here d = next-turn h ∙ stopped word allow (most_turns - (n + 1)) _ (not-paused _ (λ e. d (q ∙ e)))
+
+      pub turning-done : (a ≡ Paused → ⊥) → Leaves (word_of word allow first) before next m'
+      unfolding so-far
+      turning-done d = left_by (ends-here d) (record { wrote = both t.wrote l.wrote; state = l.state })
+
+      pub turning-answer : (a ≡ Paused → ⊥) → a ≡ (word_of word allow first).answer
+      unfolding so-far
+      turning-answer d = answer_by a (ends-here d) q
+
+      pub turning-near : next.at ≤ before.at + word_bound
+      turning-near = omega (arith, t.near)
+
+    -- no turn is left
+    module _ (h : n ≤ most_turns) (k : most_turns ≤ n) where
+      is-last : word_of word allow first ≡ so-far
+      unfolding more_turns so-far
+      is-last = let e : most_turns - n ≡ 0 = omega arith in t.rest ∙ rw e
+
+      pub turning-last : Leaves (word_of word allow first) before now m
+      unfolding so-far
+      turning-last = left_by is-last (record { wrote = t.wrote; state = refl })
+
+      pub last-answer : Paused ≡ (word_of word allow first).answer
+      unfolding so-far
+      last-answer = answer_by Paused is-last refl
+
+      pub last-near : now.at ≤ before.at + word_bound
+      last-near = omega (arith, t.near)
 
 -- ---- the words
 
--- k words have been taken
-pub record Running (sheet : List ℕ) (first count allow : ℕ) (start : State) (out₀ : List ℕ) (k : ℕ) (out : List ℕ) (r : Ran)
-    (state : State) : Type 0 where
+-- k words have been taken, and each has finished
+pub record Running (sheet : List ℕ) (w : Words) (start : State) (before : Text) (k : ℕ) (now : Text) (m : Machine) : Type 0 where
   pub text : List ℕ
-  pub wrote : Wrote out₀ 0 text out r.at
-  pub rest : run_of (words_at sheet first count) allow (from start)
-      ≡ run_of (words_at sheet (after_words first k) (count - k)) allow (record { text = text; answer = r.answer; state = state })
-  pub near : r.at ≤ word_bound * k
+  pub wrote : Adds before text now
+  pub rest : run_of (words_at sheet w.first w.count) w.allow (from start)
+      ≡ run_of (words_at sheet (after_words w.first k) (w.count - k)) w.allow (record { text = text; answer = Finished; state = held m })
+  pub near : now.at ≤ before.at + word_bound * k
+
+pub running_none : (sheet : List ℕ) (w : Words) (t : Text) (m : Machine) → Running sheet w (held m) t 0 t m
+running_none sheet w t m = record { text = []; wrote = nothing t; rest = same; near = omega arith }
+  where
+    same : run_of (words_at sheet w.first w.count) w.allow (from (held m))
+        ≡ run_of (words_at sheet (w.first + 0) (w.count - 0)) w.allow (from (held m))
+    same = let e : w.count - 0 ≡ w.count = omega arith in rw (add-zero w.first, e)
 
 unfinished : (words : List ℕ) (allow : ℕ) (p : Progress) → is_finished p.answer ≡ false → run_of words allow p ≡ p
 unfolding run_of
@@ -138,50 +168,54 @@ next_word sheet first count k h =
     let f : after_words first k + word_length ≡ after_words first (k + 1) = omega arith in
     rw (e, f)
 
-module _ (sheet : List ℕ) (first count allow : ℕ) (start : State) (out₀ : List ℕ) where
-  pub running_none : (c : Control)
-      → Running sheet first count allow start out₀ 0 out₀ (record { at = 0; answer = Finished; control = c }) start
-  running_none c = record { text = []; wrote = nothing out₀ 0; rest = same; near = omega arith }
-    where
-      same : run_of (words_at sheet first count) allow (from start) ≡ run_of (words_at sheet (first + 0) (count - 0)) allow (from start)
-      same = let e : count - 0 ≡ count = omega arith in rw (add-zero first, e)
+module _ (sheet : List ℕ) (w : Words) (start : State) (before : Text) (k : ℕ) (now : Text) (m : Machine)
+    (g : Running sheet w start before k now m) where
+  -- the words that are left after the next, the progress so far, and what the next word comes to
+  abbrev others : List ℕ
+  others = words_at sheet (after_words w.first (k + 1)) (w.count - (k + 1))
 
-  pub running_more : (k number : ℕ) (out out' : List ℕ) (state : State) (r r' : Ran) (registers scalars memory rights : List ℕ)
-      → k < count
-      → Running sheet first count allow start out₀ k out r state
-      → number ≡ number_of r.answer
-      → number ≡ 0
-      → Leaves (word_of (word_at sheet (after_words first k)) allow state) out r.at out' r' registers scalars memory rights
-      → r'.at ≤ r.at + word_bound
-      → Running sheet first count allow start out₀ (k + 1) out' r' (given registers scalars memory rights r'.control)
-  unfolding run_of
-  running_more k number out out' state r r' registers scalars memory rights h g q z l n = record {
-    text = g.text ++ (word_of (word_at sheet (after_words first k)) allow state).text;
-    wrote = both g.wrote l.wrote;
-    rest = g.rest ∙ rw (next_word sheet first count k h, eq-eqb (number_of r.answer) 0 (sym q ∙ z), l.answer, l.state);
-    near = omega (arith, g.near);
-  }
+  done : Progress
+  done = record { text = g.text; answer = Finished; state = held m }
 
-  ended_by : {k : ℕ} {out : List ℕ} {r : Ran} {registers scalars memory rights : List ℕ} {c : Control}
-      → (g : Running sheet first count allow start out₀ k out r (given registers scalars memory rights c))
-      → run_of (words_at sheet first count) allow (from start)
-      ≡ record { text = g.text; answer = r.answer; state = given registers scalars memory rights c }
-      → Ended (run_of (words_at sheet first count) allow (from start)) out₀ out r.at registers scalars
-  ended_by g e = rw e (record { wrote = g.wrote; vectors = refl; numbers = refl })
+  abbrev taken : Progress
+  taken = word_of (word_at sheet (after_words w.first k)) w.allow (held m)
 
-  -- a word has not finished
-  pub running-stops : (k number : ℕ) (out : List ℕ) (r : Ran) (registers scalars memory rights : List ℕ) (c : Control)
-      → Running sheet first count allow start out₀ k out r (given registers scalars memory rights c)
-      → number ≡ number_of r.answer
-      → (number ≡ 0 → ⊥)
-      → Ended (run_of (words_at sheet first count) allow (from start)) out₀ out r.at registers scalars
-  running-stops k number out r registers scalars memory rights c g q z =
-      ended_by g (g.rest ∙ unfinished _ allow _ (ne_eqb (number_of r.answer) 0 (λ e. z (q ∙ e))))
+  abbrev whole : Progress
+  whole = run_of (words_at sheet w.first w.count) w.allow (from start)
+
+  word-on : k < w.count → whole ≡ run_of others w.allow (joined done taken)
+  unfolding run_of done
+  word-on h = g.rest ∙ rw (next_word sheet w.first w.count k h)
+
+  module _ {next : Text} {m' : Machine} (a : Answer) (h : k < w.count) (l : Leaves taken now next m') (q : a ≡ taken.answer)
+      (near : next.at ≤ now.at + word_bound) where
+    pub running_more : a ≡ Finished → Running sheet w start before (k + 1) next m'
+    unfolding done
+    running_more p = record {
+      text = g.text ++ taken.text;
+      wrote = both g.wrote l.wrote;
+      rest = word-on h
+          ∙ ap (run_of others w.allow) (λ i. record { text = g.text ++ taken.text; answer = (sym q ∙ p) i; state = sym l.state i });
+      near = omega (arith, g.near);
+    }
+
+    -- the word has not finished
+    pub running-stops : (a ≡ Finished → ⊥) → Leaves whole before next m'
+    unfolding done
+    running-stops d =
+        left_by (word-on h ∙ unfinished others w.allow _ (not-finished _ (λ e. d (q ∙ e))))
+        (record { wrote = both g.wrote l.wrote; state = l.state })
+
+    pub running-near : before.at ≡ 0 → Listed sheet w → next.at ≤ words_bound
+    running-near z listed = omega (arith, g.near, listed.most.1.1)
 
   -- no word is left
-  pub running-last : (k : ℕ) (out : List ℕ) (r : Ran) (registers scalars memory rights : List ℕ) (c : Control)
-      → count ≤ k
-      → Running sheet first count allow start out₀ k out r (given registers scalars memory rights c)
-      → Ended (run_of (words_at sheet first count) allow (from start)) out₀ out r.at registers scalars
-  unfolding words_at run_of
-  running-last k out r registers scalars memory rights c h g = let e : count - k ≡ 0 = omega arith in ended_by g (g.rest ∙ rw e)
+  pub running-last : w.count ≤ k → Leaves whole before now m
+  unfolding words_at run_of done
+  running-last h =
+      let e : w.count - k ≡ 0 = omega arith in
+      let p : whole ≡ done = g.rest ∙ rw e in
+      left_by p (record { wrote = g.wrote; state = refl })
+
+  pub last-within : k ≤ w.count → before.at ≡ 0 → Listed sheet w → now.at ≤ words_bound
+  last-within h z listed = omega (arith, g.near, listed.most.1.1)

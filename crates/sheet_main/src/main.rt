@@ -6,8 +6,10 @@
 ghost use Rattle.std.specs.Prelude.{◌≡◌, length};
 ghost use Rattle.sheet.specs.Bounds.{sheet_bound};
 
+use std::io::{self, Read, Write};
+
 // Bytes read at most.
-const INPUT: usize = 1000;
+const INPUT: u64 = 1000;
 
 // Zeros, as many as the longest text that a sheet prints.
 fn room() -> [u8; sheet::SHEET_MAX]
@@ -16,16 +18,17 @@ fn room() -> [u8; sheet::SHEET_MAX]
     [0; sheet::SHEET_MAX]
 }
 
-// What a sheet prints, on standard output.
-fn print(sheet: &[u8], out: &mut [u8]) {
+// What a sheet prints.
+fn print(output: &mut impl Write, sheet: &[u8], out: &mut [u8]) -> io::Result<()> {
     let n = sheet::run(sheet, out);
-    let k = io::count(n as isize, out);
-    io::write_all(1, &out[..k]);
+    let k = n.min(out.len());
+    output.write_all(&out[..k])
 }
 
-fn main() {
-    let mut input = [0u8; INPUT];
+fn main(rt: HostRuntime) -> io::Result<()> {
+    let mut sheet = Vec::new(rt.alloc());
+    // a read that fails ends the sheet, as the end of the input does
+    let _ = rt.reader().take(INPUT).read_to_end(&mut sheet);
     let mut out = room();
-    let n = io::read_full(0, &mut input);
-    print(&input[..n], &mut out);
+    print(&mut io::writer(&rt), &sheet, &mut out)
 }

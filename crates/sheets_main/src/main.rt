@@ -4,130 +4,75 @@
 
 #![tactic(auto)]
 
-ghost use Rattle.std.specs.Prelude.{◌≡◌, length, ◌+◌};
-ghost use Rattle.sheet.specs.Bounds.{sheet_bound};
+use std::alloc::Global;
+use std::io::{self, BufReader, BufWriter, Read, Write};
 
 // No sheet prints this byte.
 const FILLER: u8 = 165;
 
 // Bytes behind the text that must stay as they were.
-const BEHIND: u32 = 64;
+const BEHIND: usize = 64;
 
-// Room for a sheet, and for the longest text that one prints, with what is behind.
-const INPUT: usize = 400000;
+// A longer sheet is not run, nor are those behind it.
+const SHEET_ROOM: u64 = 400_000;
 
-const OUTPUT: usize = sheet::SHEET_MAX + BEHIND as usize;
+// No more sheets are run.
+const SHEETS: usize = 1_000_000;
 
-// The filler in every byte.
-fn fill(out: &mut [u8]) {
-    for k in 0..out.len() {
-        out[k] = FILLER;
-    }
-}
-
-// Whether the bytes from an index on are as `fill` leaves them.
-fn filled(out: &[u8], from: usize) -> bool {
-    for k in from..out.len() {
-        if out[k] != FILLER {
-            return false;
-        }
-    }
-    true
+// Whether a sheet answers the length needed, and leaves a buffer as it was from an index on.
+fn leaves(sheet: &[u8], buffer: &mut [u8], from: usize, needed: usize) -> bool {
+    buffer.fill(FILLER);
+    let answered = sheet::run(sheet, buffer);
+    answered == needed && buffer.iter().skip(from).all(|byte| *byte == FILLER)
 }
 
 // A line that says whether a check went well.
-fn print_check(name: &[u8], ok: bool) {
-    io::write_all(1, name);
-    if ok {
-        io::write_all(1, b"=ok\n");
-    } else {
-        io::write_all(1, b"=bad\n");
-    }
-}
-
-// What the sheet prints, from this buffer.
-fn write_text(sheet: &[u8], out: &mut [u8]) {
-    fill(out);
-    sheet::run(sheet, out);
-    io::write_all(1, out);
-}
-
-// From a buffer of so many bytes.
-fn print_text(sheet: &[u8], out: &mut [u8], bytes: u32) {
-    let k = io::count(bytes as isize, out);
-    write_text(sheet, &mut out[..k]);
-}
-
-// Whether the buffer is as it was from an index on, and the length is answered.
-fn left(sheet: &[u8], out: &mut [u8], from: usize, needed: usize) -> bool {
-    fill(out);
-    let n = sheet::run(sheet, out);
-    (n == needed) & filled(out, from)
-}
-
-// The same of a buffer of so many bytes.
-fn part_left(sheet: &[u8], out: &mut [u8], bytes: u32, from: usize, needed: usize) -> bool {
-    let k = io::count(bytes as isize, out);
-    left(sheet, &mut out[..k], from, needed)
+fn print_check(output: &mut impl Write, name: &str, is_well: bool) -> io::Result<()> {
+    writeln!(output, "{name}={}", if is_well { "ok" } else { "bad" })
 }
 
 // One sheet: its text, and the two checks.
-fn run_sheet(sheet: &[u8], out: &mut [u8]) {
-    let n = sheet::run(sheet, &mut out[..0]);
-    if n == 0 {
-        return;
+fn run_sheet(alloc: Global, sheet: &[u8], output: &mut impl Write) -> io::Result<()> {
+    let needed = sheet::run(sheet, &mut []);
+    if needed == 0 {
+        return Ok(());
     }
-    print_text(sheet, out, n as u32);
-    print_check(b"rest", part_left(sheet, out, n as u32 + BEHIND, n, n));
-    let empty = part_left(sheet, out, 0, 0, n);
-    let short = part_left(sheet, out, n as u32 - 1, 0, n);
-    print_check(b"short", empty & short);
+    let mut buffer = vec![in alloc; FILLER; needed + BEHIND]?;
+    sheet::run(sheet, &mut buffer[..needed]);
+    output.write_all(&buffer[..needed])?;
+    let rest = leaves(sheet, &mut buffer, needed, needed);
+    print_check(output, "rest", rest)?;
+    let empty = leaves(sheet, &mut buffer[..0], 0, needed);
+    let short = leaves(sheet, &mut buffer[..needed - 1], 0, needed);
+    print_check(output, "short", empty && short)
 }
 
-// The sheet whose bytes come next.
-fn read_sheet(input: &mut [u8], out: &mut [u8]) {
-    let n = io::read_full(0, input);
-    run_sheet(&input[..n], out);
-}
-
-// The next sheet; false where there is none, or it is longer than the room for it.
-fn step(input: &mut [u8], out: &mut [u8]) -> bool {
-    let mut head = [0u8; 8];
-    let n = io::read_full(0, &mut head);
+// The bytes of the next sheet, as far as the input has them; none where there is no length, or it is above the room.
+fn next_sheet(alloc: Global, input: &mut impl Read) -> Option<Vec<u8>> {
+    let Some(head) = case_lines::next_bytes::<8, _>(input) else {
+        return None;
+    };
     let size = hexadecimal::number(&head, 0, 8);
-    let k = io::count(size as isize, input);
-    if (n < 8) | ((k as u64) < size) {
-        return false;
+    if SHEET_ROOM < size {
+        return None;
     }
-    read_sheet(&mut input[..k], out);
-    true
+    let mut sheet = Vec::new(alloc);
+    // a read that fails ends the sheet, as the end of the input does
+    let _ = input.by_ref().take(size).read_to_end(&mut sheet);
+    Some(sheet)
 }
 
-// All sheets.
-fn read_sheets(input: &mut [u8], out: &mut [u8]) {
-    for _ in 0..1000000usize {
-        if !step(input, out) {
+fn main(rt: HostRuntime) -> io::Result<()> {
+    let alloc = rt.alloc();
+    let mut input = BufReader::new(alloc, rt.reader())?;
+    let mut output = BufWriter::new(alloc, io::writer(&rt))?;
+    for _ in 0..SHEETS {
+        let Some(sheet) = next_sheet(alloc, &mut input) else {
             break;
-        }
+        };
+        run_sheet(alloc, &sheet, &mut output)?;
+        // what is said of this sheet stands in the output before the next is read
+        output.flush()?;
     }
-}
-
-// Zeros, for a sheet.
-fn input_room() -> [u8; INPUT]
-    ensures { 400000 ≡ length result }
-{
-    [0; INPUT]
-}
-
-// Zeros, for what it prints.
-fn output_room() -> [u8; OUTPUT]
-    ensures { sheet_bound + 64 ≡ length result }
-{
-    [0; OUTPUT]
-}
-
-fn main() {
-    let mut input = input_room();
-    let mut out = output_room();
-    read_sheets(&mut input, &mut out);
+    Ok(())
 }

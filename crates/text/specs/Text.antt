@@ -1,5 +1,6 @@
 -- Text as a list of bytes, and its place in a lent buffer.
 use Rattle.std.specs.Prelude.{ℕ, zero, suc, ◌+◌, ◌/◌, ◌%◌, ◌^◌, ◌≡◌, cond, List, [], ◌∷◌, ◌++◌, length, set, ltb}
+use Rattle.text.specs.declared.Text.{Text}
 use Prim.Native.Char.{code}
 use Prim.Native.String.{String, [] as empty, ◌∷◌ as ◌and◌}
 
@@ -44,3 +45,8 @@ over out at (b ∷ text) = over (set out at b) (suc at) text
 pub record Wrote (out : List ℕ) (at : ℕ) (text : List ℕ) (after : List ℕ) (next : ℕ) : Type 0 where
   pub bytes : after ≡ over out at text
   pub ends : next ≡ at + length text
+
+-- a text has been added to what a Text writes, and its buffer is still the one that was lent
+pub record Adds (before : Text) (text : List ℕ) (after : Text) : Type 0 where
+  pub wrote : Wrote before.out.now before.at text after.out.now after.at
+  pub same_buffer : after.out.ghost_name ≡ before.out.ghost_name

@@ -1,22 +1,22 @@
 -- A turn of a word by the tests of the code: refused, illegal, of one turn, or of elements.
+use Rattle.std.specs.Prelude.{Result, Ok, Err, ⊤}
+use Rattle.std.specs.Array.{IsFirstChunk}
+use Rattle.std.proofs.lemmas.List.{take_all, drop_all, append-nil}
 use Prim.Native.Nat.{ℕ, ◌≤◌}
 use mathlib.Core.Path.{◌≡◌, refl, sym, ap, ◌∙◌}
 use mathlib.Core.Logic.{⊎_elim}
 use mathlib.Core.Bool.{Bool, true, false, not, cond, and-false}
-use mathlib.Core.List.{List}
+use mathlib.Core.List.{List, ◌++◌}
 use mathlib.Core.Option.{none, some}
 use native.Mathlib.Omega.{arith}
-use lib.ListN.{length}
+use lib.ListN.{length, drop}
 use Rattle.answer.specs.declared.Answer.{Answer}
 use Rattle.answer.specs.declared.Answer.TheVariants.{Finished, Illegal}
-use Rattle.answer.specs.declared.Verdict.{Verdict}
-use Rattle.answer.specs.declared.Verdict.TheVariants.{Accepted, Refused}
 use Rattle.control.specs.declared.Board.{Board}
 use Rattle.control.specs.declared.Control.{Control}
-use Rattle.control.specs.Board.{Valid}
 use Rattle.control.specs.Control.{with_vstart, dirtied, is_off}
 use Rattle.control.specs.Vtype.{sew_of}
-use Rattle.control.proofs.Laws.{Possible, possible-apart, typed-well-apart, supported-sew-le}
+use Rattle.control.proofs.Laws.{Possible, possible-apart, typed-well-apart, supported-sew-le, valid}
 use Rattle.decode.specs.declared.Instruction.{Instruction}
 use Rattle.decode.specs.Word.{decode_of}
 use Rattle.decode.specs.Fields.{Fits}
@@ -44,9 +44,9 @@ use Rattle.one_turn.specs.Performable.{Performable}
 
 -- ---- what an accepted state keeps to
 
-module _ (b : Board) (registers scalars memory : ℕ) (rights : List ℕ) (c : Control) (v : Verdict)
-    (q : v ≡ refusal_of b registers scalars memory rights c) (h : v ≡ Accepted) where
-  accepted : refusal_of b registers scalars memory rights c ≡ Accepted
+module _ (b : Board) (registers scalars memory : ℕ) (rights : List ℕ) (c : Control) (v : Result ⊤ Answer)
+    (q : v ≡ refusal_of b registers scalars memory rights c) (h : v ≡ Ok tt) where
+  accepted : refusal_of b registers scalars memory rights c ≡ Ok tt
   accepted = sym q ∙ h
 
   pub accepted-possible : Possible b c
@@ -55,13 +55,24 @@ module _ (b : Board) (registers scalars memory : ℕ) (rights : List ℕ) (c : C
   pub accepted-scalars : scalars ≡ 32
   accepted-scalars = (accepted-facts b registers scalars memory rights c accepted).scalars-length
 
-  -- with vill set, SEW by its bits is 8
-  pub accepted-sew : Valid b → sew_of c.vtype ≤ 64
-  accepted-sew w =
-      ⊎_elim (λ e. rw e.0 (omega arith)) (λ e. supported-sew-le b c.vtype w e.0) (typed-well-apart b c accepted-possible.typed)
+  pub accepted-rights : length rights ≡ 256
+  accepted-rights = (accepted-facts b registers scalars memory rights c accepted).rights-length
 
-  pub accepted-vl : Valid b → c.vl ≤ 128
-  accepted-vl w = omega (arith, accepted-possible.vl, w.most)
+  -- with vill set, SEW by its bits is 8
+  pub accepted-sew : sew_of c.vtype ≤ 64
+  accepted-sew =
+      ⊎_elim (λ e. rw e.0 (omega arith)) (λ e. supported-sew-le b c.vtype (valid b) e.0) (typed-well-apart b c accepted-possible.typed)
+
+  pub accepted-vl : c.vl ≤ 128
+  accepted-vl = omega (arith, accepted-possible.vl, b.most)
+
+-- the array that is lent of 32 scalars is all of them, and what is left in it is all that is left
+module _ (x : List ℕ) (l : length x ≡ 32) where
+  pub all-lent : (y : List ℕ) → IsFirstChunk x y 32 → y ≡ x
+  all-lent y h = h.same ∙ take_all 32 x (omega (arith, l))
+
+  pub all-left : (y : List ℕ) → y ++ drop 32 x ≡ y
+  all-left y = rw (drop_all 32 x (omega (arith, l))) (append-nil y)
 
 pub decoded-fits : (word : ℕ) (d : Instruction) → d ≡ decode_of word → Fits d
 decoded-fits word d e = rw e (Decoded.fits word)
@@ -100,16 +111,14 @@ module _ (b : Board) (x : List ℕ) (c : Control) (d : Instruction) (p : Plan) (
   elements-planned e q = legal-checked b c (plan_of b x c d) (P.Elements e) (sym h ∙ q) (λ f. let z : ◌≡◌ {A = ℕ} 0 1 = cc in omega arith)
 
 -- what the turn of an instruction that takes one turn relies on, of an accepted state
-pub one-turn-performable : (b : Board) (word registers memory : ℕ) (x rights : List ℕ) (c : Control) (v : Verdict) (d : Instruction)
-    (p : Plan) (t : OneTurn) → Valid b → v ≡ refusal_of b registers (length x) memory rights c → v ≡ Accepted → d ≡ decode_of word
+pub one-turn-performable : (b : Board) (word registers memory : ℕ) (x rights : List ℕ) (c : Control) (v : Result ⊤ Answer) (d : Instruction)
+    (p : Plan) (t : OneTurn) → v ≡ refusal_of b registers (length x) memory rights c → v ≡ Ok tt → d ≡ decode_of word
     → p ≡ checked_of b c (plan_of b x c d) → p ≡ P.OneTurn t → Performable b registers x c t
-one-turn-performable b word registers memory x rights c v d p t w q h k u e =
+one-turn-performable b word registers memory x rights c v d p t q h k u e =
     let y = one-turn-planned b x c d p u t e in
     let a = accepted-facts b registers (length x) memory rights c (sym q ∙ h) in
     record {
-      valid = w;
       registers = a.registers-length;
-      scalars = a.scalars-length;
       possible = a.possible;
       word = d;
       fits = decoded-fits word d k;
@@ -127,13 +136,13 @@ module _ (b : Board) (word : ℕ) (file x memory rights : List ℕ) (c : Control
   abbrev before : State
   before = given file x memory rights c
 
-  pub refused-word : (n : ℕ) (v : Verdict) (a : Answer) (r : Turned) → v ≡ refusal_of b (length file) (length x) (length memory) rights c
-      → v ≡ Refused a
+  pub refused-word : (n : ℕ) (v : Result ⊤ Answer) (a : Answer) (r : Turned) → v ≡ refusal_of b (length file) (length x) (length memory) rights c
+      → v ≡ Err a
       → r ≡ still a c → left r file x memory rights ≡ turn_of b word n before
   refused-word n v a r q h e = ap (λ (t : Turned). left t file x memory rights) e ∙ sym ((demand-1 b).refuses word n before a (sym q ∙ h))
 
-  module _ (v : Verdict) (d : Instruction) (p : Plan) (q : v ≡ refusal_of b (length file) (length x) (length memory) rights c)
-      (h : v ≡ Accepted) (k : d ≡ decode_of word) (u : p ≡ checked_of b c (plan_of b x c d)) where
+  module _ (v : Result ⊤ Answer) (d : Instruction) (p : Plan) (q : v ≡ refusal_of b (length file) (length x) (length memory) rights c)
+      (h : v ≡ Ok tt) (k : d ≡ decode_of word) (u : p ≡ checked_of b c (plan_of b x c d)) where
     -- the word's plan is w
     planned-turn : (n : ℕ) (w : Plan) (o : Outcome) → plan_of b x c d ≡ w → o ≡ plan_turn b w n before → o ≡ turn_of b word n before
     unfolding turn_of
@@ -167,16 +176,11 @@ module _ (b : Board) (word : ℕ) (file x memory rights : List ℕ) (c : Control
         ∙ ap (λ (s : Core). left (still Finished (dirtied (with_vstart s.control 0))) s.registers s.scalars s.memory rights) z
         ∙ sym (ap (outcome_of b w rights) (one-turn (semantics_of b w) _ _ (rejection-is w true y.1) refl)))
 
-    pub elements-runnable : (e : Elementwise) → Valid b → p ≡ P.Elements e → Runnable b before e
-    elements-runnable e w f =
+    pub elements-runnable : (e : Elementwise) → p ≡ P.Elements e → Runnable b before e
+    elements-runnable e f =
         let y = elements-planned b x c d p u e f in
-        record { valid = w; word = d; fits = decoded-fits word d k; plan = y.0; is-legal = rejection-is (P.Elements e) true y.1 }
+        record { word = d; fits = decoded-fits word d k; plan = y.0; is-legal = rejection-is (P.Elements e) true y.1 }
 
     pub elements-word : (n : ℕ) (e : Elementwise) (o : Outcome) → p ≡ P.Elements e → o ≡ plan_turn b (P.Elements e) n before
         → o ≡ turn_of b word n before
     elements-word n e o f = planned-turn n (P.Elements e) o (elements-planned b x c d p u e f).0
-
--- ---- the turn on a board b is that on the board that a promise names, where b is that board
-pub turned_by : (b named : Board) (word n : ℕ) (s : State) (o : Outcome) → b ≡ named → o ≡ turn_of b word n s
-    → o ≡ turn_of named word n s
-turned_by b named word n s o e h = rw (← e) h

@@ -4,14 +4,13 @@
 
 ghost use Rattle.std.specs.Prelude.{◌≡◌};
 ghost use Rattle.answer.specs.declared.Answer.TheVariants.{Finished};
-ghost use Rattle.control.specs.Board.{Valid, base, small};
 ghost use Rattle.control.specs.Control.{dirtied};
 ghost use Rattle.access.specs.Access.{nowhere};
 ghost use Rattle.machine.specs.Call.{given, left};
 ghost use Rattle.machine.specs.Machine.{turn_of};
 
 use access::FaultPlace;
-use answer::{Answer, Verdict};
+use answer::Answer;
 use control::{Board, Control};
 use machine::Turned;
 use plan::Plan;
@@ -36,8 +35,10 @@ fn finished(control: Control) -> Turned
     answered(Answer::Finished, control.dirtied())
 }
 
-// Every word, on a board: refusals 32 to 36, then 2, then what its plan says.
-fn turn_on(
+// One turn of a word on a board, of at most `allowance` elements: refusals 32 to 36, then 2, then what its plan says. Answer and counts are
+// returned, the rest of what it leaves stands in the lent parts. No Result is made of refusal and 2, here and in access_check:
+// `Plan::Illegal` would still be matched, beside `Err`.
+pub fn turn(
     board: Board,
     word: u32,
     allowance: u32,
@@ -47,12 +48,11 @@ fn turn_on(
     rights: &[u8],
     control: Control,
 ) -> Turned
-    requires { Valid board }
     ensures { left result registers.new scalars.new memory.new rights.now
         ≡ turn_of board word allowance
         (given registers.old scalars.old memory.old rights.now control) }
 {
-    let verdict = refusal::refusal_on(
+    let refused = refusal::refusal(
         board,
         registers.len(),
         scalars.len(),
@@ -60,9 +60,16 @@ fn turn_on(
         rights,
         control,
     );
-    if let Verdict::Refused(answer) = verdict {
+    if let Err(answer) = refused {
         return answered(answer, control);
     }
+    // what is not refused has 32 scalars and 256 rights
+    let Some(scalars) = scalars.first_chunk_mut::<32>() else {
+        unreachable!()
+    };
+    let Ok(rights) = <&[u8; 256]>::try_from(rights) else {
+        unreachable!()
+    };
     match legality::checked(board, scalars, control, decode::decode(word)) {
         Plan::Illegal => answered(Answer::Illegal, control),
         Plan::OneTurn(t) => finished(one_turn::perform(board, registers, scalars, control, t)),
@@ -77,56 +84,4 @@ fn turn_on(
             e,
         ),
     }
-}
-
-// One turn of a word, of at most `allowance` elements: answer and counts are returned, the rest of what it leaves stands in the lent parts.
-pub fn turn(
-    word: u32,
-    allowance: u32,
-    registers: &mut [u8],
-    scalars: &mut [u64],
-    memory: &mut [u8],
-    rights: &[u8],
-    control: Control,
-) -> Turned
-    ensures { left result registers.new scalars.new memory.new rights.now
-        ≡ turn_of base word allowance
-        (given registers.old scalars.old memory.old rights.now control) }
-{
-    turn_on(
-        Board::base(),
-        word,
-        allowance,
-        registers,
-        scalars,
-        memory,
-        rights,
-        control,
-    )
-}
-
-// The same on the smaller board.
-pub fn small_turn(
-    word: u32,
-    allowance: u32,
-    registers: &mut [u8],
-    scalars: &mut [u64],
-    memory: &mut [u8],
-    rights: &[u8],
-    control: Control,
-) -> Turned
-    ensures { left result registers.new scalars.new memory.new rights.now
-        ≡ turn_of small word allowance
-        (given registers.old scalars.old memory.old rights.now control) }
-{
-    turn_on(
-        Board::small(),
-        word,
-        allowance,
-        registers,
-        scalars,
-        memory,
-        rights,
-        control,
-    )
 }

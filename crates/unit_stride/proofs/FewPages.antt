@@ -1,4 +1,5 @@
 -- However the elements of an access are tested, at most two pages come of it: it has at most 128 bytes.
+use Rattle.std.specs.Prelude.{Result, Ok, Err, ⊤}
 use Prim.Native.Nat.{ℕ, zero, suc, ◌+◌, ◌-◌, ◌*◌, ◌≤◌, ◌<◌}
 use mathlib.Core.Path.{◌≡◌, refl, sym, ◌∙◌}
 use mathlib.Core.Logic.{◌⊎◌, inl, inr, ⊎_elim}
@@ -10,8 +11,6 @@ use native.Mathlib.Decide.{dec_lt}
 use lib.Dec.{eqb}
 use borrow.Author.Tests.{eq-eqb}
 use Rattle.width.specs.Width.{flag}
-use Rattle.access.specs.declared.AccessTest.{AccessTest}
-use Rattle.access.specs.declared.AccessTest.TheVariants.{Granted, Faulted}
 use Rattle.access.specs.Access.{page_of}
 use Rattle.plan.specs.declared.Transfer.{Transfer}
 use Rattle.machine.specs.Effect.{element_address}
@@ -20,6 +19,7 @@ use Rattle.unit_stride.specs.Pages.{meets, different_pages, page_tested}
 use Rattle.unit_stride.specs.Tested.{Packed, test_of, Tested, none-faults, first-faults}
 use Rattle.unit_stride.proofs.PackedLaws.{later}
 use Rattle.unit_stride.proofs.TestedLaws.{granted-inside}
+use Rattle.access.specs.declared.Fault.{Fault}
 
 -- ---- elements on page p and the next
 
@@ -124,14 +124,14 @@ module _ (active : ℕ → Bool) (rights : List ℕ) (memory : ℕ) (t : Transfe
     pub result : Checked
     pub tested : Tested active rights memory t v m result
 
-  found-next : (m : ℕ) (x : AccessTest) → test_of active rights memory t (v + m) ≡ x → Found m → Found (suc m)
+  found-next : (m : ℕ) (x : Result ⊤ Fault) → test_of active rights memory t (v + m) ≡ x → Found m → Found (suc m)
   found-next m x e f = go f.result f.tested x e
     where
-      go : (r : Checked) → Tested active rights memory t v m r → (y : AccessTest) → test_of active rights memory t (v + m) ≡ y
+      go : (r : Checked) → Tested active rights memory t v m r → (y : Result ⊤ Fault) → test_of active rights memory t (v + m) ≡ y
           → Found (suc m)
       go _ (first-faults k f l h q) y z = record { result = _; tested = first-faults k f (omega arith) h q }
-      go _ (none-faults h) (Faulted f) z = record { result = _; tested = first-faults m f (omega arith) h z }
-      go _ (none-faults h) Granted z = record {
+      go _ (none-faults h) (Err f) z = record { result = _; tested = first-faults m f (omega arith) h z }
+      go _ (none-faults h) (Ok tt) z = record {
         result = _;
         tested = none-faults (λ j l. elim (dec_lt j m) [
           | yes y ↦ h j y
@@ -143,11 +143,11 @@ module _ (active : ℕ → Bool) (rights : List ℕ) (memory : ℕ) (t : Transfe
   found zero = record { result = _; tested = none-faults (λ j l. absurd (omega arith)) }
   found (suc m) = found-next m (test_of active rights memory t (v + m)) refl (found m)
 
-  module _ (n : ℕ) (g : Packed rights memory t v n) where
+  module _ (n : ℕ) (g : Packed memory t v n) where
     near-pages : (i j : ℕ) → i ≤ j → j < n → inside (v + i) ≡ true
         → (page (v + i) ≤ page (v + j)) × (page (v + j) ≤ suc (page (v + i)))
     near-pages i j l m h =
-        let o = later rights memory t v n g i j l m h in
+        let o = later memory t v n g i j l m h in
         let d : (j - i) * t.bytes ≤ n * t.bytes = mul-le-mul_right t.bytes (omega arith) in
         (omega (arith, o), omega (arith, o, d, g.short))
 

@@ -1,5 +1,6 @@
 -- A unit-stride access under a mask, one element after the other: what the loop keeps, and how each way out meets the contract.
-use Prim.Native.Nat.{ℕ, suc, ◌+◌, ◌/◌, ◌^◌, ◌≤◌, ◌<◌}
+use Rattle.std.specs.Prelude.{Result, Ok, Err, ⊤}
+use Prim.Native.Nat.{ℕ, suc, ◌+◌, ◌/◌, ◌≤◌, ◌<◌}
 use mathlib.Core.Path.{◌≡◌, refl, sym, ◌∙◌}
 use mathlib.Core.Bool.{Bool, true, false, ◌&&◌, cond}
 use mathlib.Core.List.{List}
@@ -7,16 +8,12 @@ use native.Mathlib.Omega.{arith}
 use native.Mathlib.Numerals.{add-one}
 use native.Mathlib.Nat.{add-zero}
 use native.Mathlib.Decide.{dec_lt}
-use mir.Syntax.{w64}
-use mir.Val.{Fits}
 use lib.Dec.{leb}
-use borrow.Author.Tests.{leb-true, leb-false, le-leb, lt-leb}
+use borrow.Author.Tests.{leb-true, leb-false}
 use Rattle.width.specs.Width.{flag}
 use Rattle.answer.specs.declared.Answer.TheVariants.{Finished}
 use Rattle.layout.specs.Layout.{Inside}
 use Rattle.access.specs.declared.Fault.{Fault}
-use Rattle.access.specs.declared.AccessTest.{AccessTest}
-use Rattle.access.specs.declared.AccessTest.TheVariants.{Granted, Faulted}
 use Rattle.access.specs.Access.{page_of, nothing_wanted, access_of}
 use Rattle.plan.specs.declared.Transfer.{Transfer}
 use Rattle.machine.specs.Effect.{element_address}
@@ -28,19 +25,6 @@ use Rattle.unit_stride.proofs.PackedLaws.{later}
 use Rattle.unit_stride.proofs.TestedLaws.{finishes, faults, granted-inside}
 
 -- ---- one page more, or not
-
-module _ (c : Tally) (tested : Bool) (page : ℕ) where
-  pub tally-new : tested ≡ true → c.next ≤ page → record { pages = c.pages + 1; next = page + 1 } ≡ tallied_of c tested page
-  tally-new e l = rw (e, le-leb c.next page l)
-
-  pub tally-seen : tested ≡ true → page < c.next → c ≡ tallied_of c tested page
-  tally-seen e l = rw (e, lt-leb c.next page l)
-
-  pub tally-untested : tested ≡ false → c ≡ tallied_of c tested page
-  tally-untested e = rw e
-
-pub page-few : (a : ℕ) → Fits w64 a → a / 256 ≤ 2 ^ 56
-page-few a f = omega (arith, f.fits)
 
 pub mask_at : (size vlenb v n k : ℕ) → MaskInside size vlenb v n → k < n → Inside size vlenb 0 1 (v + k)
 mask_at size vlenb v n k h l = h k l
@@ -57,7 +41,7 @@ module _ (active : ℕ → Bool) (rights : List ℕ) (memory : ℕ) (t : Transfe
   -- k elements have been passed
   pub record Walking (k : ℕ) (c : Tally) : Type 0 where
     pub within : k ≤ n
-    pub passed : (j : ℕ) → j < k → test_of active rights memory t (v + j) ≡ Granted
+    pub passed : (j : ℕ) → j < k → test_of active rights memory t (v + j) ≡ Ok tt
     pub counted : Counted active page v k c.pages c.next
     -- no later element lies before the last page
     pub ascending : (j : ℕ) → k ≤ j → j < n → inside (v + j) ≡ true → c.next ≤ suc (page (v + j))
@@ -70,10 +54,10 @@ module _ (active : ℕ → Bool) (rights : List ℕ) (memory : ℕ) (t : Transfe
     ascending = λ j l m h. omega arith;
   }
 
-  module _ (g : Packed rights memory t v n) where
+  module _ (g : Packed memory t v n) where
     -- addresses of elements inside memory ascend, and so do their pages
     later-page : (k j : ℕ) → k ≤ j → j < n → inside (v + k) ≡ true → page (v + k) ≤ page (v + j)
-    later-page k j l m h = omega (arith, later rights memory t v n g k j l m h)
+    later-page k j l m h = omega (arith, later memory t v n g k j l m h)
 
     module _ (k : ℕ) (c : Tally) (w : Walking k c) (l : k < n) where
       -- the tally with element k, of which the page is tested where it is active
@@ -101,14 +85,14 @@ module _ (active : ℕ → Bool) (rights : List ℕ) (memory : ℕ) (t : Transfe
           go false f = rw f (w.ascending j (omega arith) o i)
 
       -- an element that is granted: its page is tested where it is active
-      granted-tested : (p : Bool) → active (v + k) ≡ p → test_of active rights memory t (v + k) ≡ Granted → (p && inside (v + k)) ≡ p
+      granted-tested : (p : Bool) → active (v + k) ≡ p → test_of active rights memory t (v + k) ≡ Ok tt → (p && inside (v + k)) ≡ p
       granted-tested false e h = refl
       granted-tested true e h = granted-inside active rights memory t (v + k) e h
 
       abbrev seen : Tally
       seen = tallied_of c (active (v + k) && inside (v + k)) (page (v + k))
 
-      element-passed : test_of active rights memory t (v + k) ≡ Granted → Walking (k + 1) seen
+      element-passed : test_of active rights memory t (v + k) ≡ Ok tt → Walking (k + 1) seen
       element-passed h =
           let e : (active (v + k) && inside (v + k)) ≡ active (v + k) = granted-tested (active (v + k)) refl h in
           let i : active (v + k) ≡ true → inside (v + k) ≡ true = λ p. sym (rw p) ∙ e ∙ p in
@@ -123,7 +107,7 @@ module _ (active : ℕ → Bool) (rights : List ℕ) (memory : ℕ) (t : Transfe
           })
 
       -- an element that faults is active
-      faulted-active : (p : Bool) (f : Fault) → active (v + k) ≡ p → test_of active rights memory t (v + k) ≡ Faulted f → p ≡ true
+      faulted-active : (p : Bool) (f : Fault) → active (v + k) ≡ p → test_of active rights memory t (v + k) ≡ Err f → p ≡ true
       faulted-active true f e h = refl
       faulted-active false f e h = absurd (let z : ◌≡◌ {A = ℕ} 0 1 = cc in omega arith)
 
@@ -132,7 +116,7 @@ module _ (active : ℕ → Bool) (rights : List ℕ) (memory : ℕ) (t : Transfe
       fault-pages true e a = rw (add-one k) (tally-counted true a (λ z. e)).count
       fault-pages false e a = rw add-zero w.counted.count
 
-      element-faulted : (f : Fault) → test_of active rights memory t (v + k) ≡ Faulted f
+      element-faulted : (f : Fault) → test_of active rights memory t (v + k) ≡ Err f
           → Tested active rights memory t v n
           (record { answer = f.answer; element = v + k; pages = seen.pages; wanted = f.place.wanted })
       element-faulted f h =
@@ -141,28 +125,22 @@ module _ (active : ℕ → Bool) (rights : List ℕ) (memory : ℕ) (t : Transfe
           (rw a (fault-pages (inside (v + k)) refl a))
 
       -- from what the code has: whether the element is active, its address, whether its page is tested, the tally after it and its test
-      module _ (acts : Bool) (a : ℕ) (tests : Bool) (c' : Tally) (x : AccessTest) (p : acts ≡ active (v + k))
+      module _ (acts : Bool) (a : ℕ) (tests : Bool) (c' : Tally) (x : Result ⊤ Fault) (p : acts ≡ active (v + k))
           (q : a ≡ element_address t (v + k) 0) (r : tests ≡ page_tested memory a t.bytes) (s : c' ≡ tallied_of c (acts && tests) (a / 256))
-          (y : x ≡ cond acts (access_of rights memory t.store a t.bytes) Granted) where
+          (y : x ≡ cond acts (access_of rights memory t.store a t.bytes) (Ok tt)) where
         the-test : test_of active rights memory t (v + k) ≡ x
         the-test = sym (y ∙ rw (p, q))
 
         the-tally : c' ≡ seen
         the-tally = s ∙ rw (p, r, q)
 
-        pub walking-more : x ≡ Granted → Walking (k + 1) c'
+        pub walking-more : x ≡ Ok tt → Walking (k + 1) c'
         walking-more z = rw the-tally (element-passed (the-test ∙ z))
 
-        pub walking-fault : (f : Fault) → x ≡ Faulted f
+        pub walking-fault : (f : Fault) → x ≡ Err f
             → Tested active rights memory t v n
             (record { answer = f.answer; element = v + k; pages = c'.pages; wanted = f.place.wanted })
         walking-fault f z = rw the-tally (element-faulted f (the-test ∙ z))
-
-    pub index-fits : (k : ℕ) → k < n → Fits w64 (v + k)
-    index-fits k l = record { fits = omega (arith, g.few) }
-
-    pub tally-few : (k : ℕ) (c : Tally) → Walking k c → c.pages ≤ 2 ^ 32
-    tally-few k c w = omega (arith, w.counted.few, w.within, g.few)
 
   pub walking-done : (k : ℕ) (c : Tally) → Walking k c → n ≤ k
       → Tested active rights memory t v n (record { answer = Finished; element = 0; pages = c.pages; wanted = nothing_wanted })

@@ -2,12 +2,10 @@
 use Prim.Native.Nat.{ℕ, ◌+◌, ◌-◌, ◌*◌, ◌%◌, ◌^◌, ◌≤◌, ◌<◌}
 use mathlib.Core.Path.{◌≡◌, sym, ap, ◌∙◌}
 use mathlib.Core.Bool.{true, false}
-use mathlib.Core.List.{List}
 use native.Mathlib.Omega.{arith}
 use native.Mathlib.Nat.{mod-eq_of_lt, mul-le-mul_right}
-use native.Mathlib.Decide.{dec_lt}
-use lib.Dec.{T, ltb, leb, eqb}
-use borrow.Author.Tests.{leb-true, eq-eqb, le-leb, lt-leb, lt-ltb, le-ltb}
+use lib.Dec.{T, eqb}
+use borrow.Author.Tests.{leb-true, eq-eqb, le-leb, lt-leb}
 use Rattle.laws.proofs.Apart.{both_right}
 use Rattle.layout.specs.Layout.{byte_size}
 use Rattle.layout.proofs.WidthLaws.{size-elim}
@@ -28,20 +26,12 @@ module _ (memory a n : ℕ) where
   pub untested-outside : a % n ≡ 0 → memory < a + n → page_tested memory a n ≡ false
   untested-outside e l = rw (eq-eqb (a % n) 0 e, lt-leb (a + n) memory l)
 
-  -- by the last byte
-  pub last-inside : a % n ≡ 0 → 1 ≤ n → ltb (a + (n - 1)) memory ≡ page_tested memory a n
-  last-inside e l = rw (eq-eqb (a % n) 0 e) (go (dec_lt (a + (n - 1)) memory))
-    where
-      go : Dec (a + (n - 1) < memory) → ltb (a + (n - 1)) memory ≡ leb (a + n) memory
-      go (yes y) = lt-ltb (a + (n - 1)) memory y ∙ sym (le-leb (a + n) memory (omega arith))
-      go (no y) = le-ltb (a + (n - 1)) memory (omega arith) ∙ sym (lt-leb (a + n) memory (omega arith))
-
 -- ---- addresses
 
 pub size-most : (n : ℕ) → T (byte_size n) → n ≤ 8
 size-most n t = size-elim (λ k. k ≤ 8) (omega arith) (omega arith) (omega arith) (omega arith) n t
 
-module _ (rights : List ℕ) (memory : ℕ) (t : Transfer) (v n : ℕ) (g : Packed rights memory t v n) where
+module _ (memory : ℕ) (t : Transfer) (v n : ℕ) (g : Packed memory t v n) where
   abbrev address : ℕ → ℕ
   address i = element_address t i 0
 

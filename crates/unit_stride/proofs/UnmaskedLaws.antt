@@ -1,14 +1,13 @@
 -- A unit-stride access without a mask, by its pages: the start's alignment, how many elements lie inside memory, and the first closed page.
+use Rattle.std.specs.Prelude.{Ok}
 use Prim.Native.Nat.{ℕ, zero, suc, ◌+◌, ◌-◌, ◌*◌, ◌/◌, ◌%◌, ◌≤◌, ◌<◌, min}
 use mathlib.Core.Path.{◌≡◌, refl, sym, ap, subst, ◌∙◌}
 use mathlib.Core.Bool.{Bool, true, false}
 use mathlib.Core.List.{List}
 use native.Mathlib.Omega.{arith}
-use native.Mathlib.Nat.{add-zero, mul-le-mul_right, div-le_self}
+use native.Mathlib.Nat.{add-zero, mul-le-mul_right}
 use native.Mathlib.Numerals.{add-one}
 use native.Mathlib.Decide.{dec_lt}
-use mir.Syntax.{w64}
-use mir.Val.{Fits}
 use lib.ListN.{get_or}
 use lib.Dec.{T, eqb}
 use Rattle.layout.specs.Layout.{byte_size}
@@ -16,7 +15,6 @@ use Rattle.layout.proofs.WidthLaws.{size-elim, size-pos}
 use Rattle.answer.specs.declared.Answer.{Answer}
 use Rattle.answer.specs.declared.Answer.TheVariants.{Finished}
 use Rattle.access.specs.declared.Wanted.{Wanted}
-use Rattle.access.specs.declared.AccessTest.TheVariants.{Granted}
 use Rattle.access.specs.Access.{page_of, needed, nothing_wanted, fault_of, misaligned, denied}
 use Rattle.access.proofs.AccessLaws.{is-aligned, facts-granted, faults-misaligned, faults-past-memory, faults-closed}
 use Rattle.plan.specs.declared.Transfer.{Transfer}
@@ -75,29 +73,16 @@ module _ (rights : List ℕ) (right first last : ℕ) where
     pub most : page ≤ suc last
     pub before : (p : ℕ) → first ≤ p → p < page → right ≤ get_or rights p 0
 
-  pub scanned-none : first ≤ last → Scanned first
-  scanned-none l = record { least = omega arith; most = omega arith; before = λ p a b. absurd (omega arith) }
-
-  module _ (page : ℕ) (s : Scanned page) where
-    pub scanned-more : page ≤ last → right ≤ get_or rights page 0 → Scanned (page + 1)
-    scanned-more l r = record {
-      least = omega (arith, s.least);
-      most = omega arith;
-      before = λ p a b. elim (dec_lt p page) [
-        | yes y ↦ s.before p a y
-        | no y ↦ let z : p ≡ page = omega arith in rw z r
-      ];
-    }
-
-    pub scanned-closed : get_or rights page 0 < right → FirstClosed rights right first last page
-    scanned-closed l = record { least = s.least; most = s.most; before = s.before; closed = λ h. l }
-
-    pub scanned-all : last < page → FirstClosed rights right first last page
-    scanned-all l = record { least = s.least; most = s.most; before = s.before; closed = λ h. absurd (omega arith) }
-
 -- ---- the access
 
-module _ (rights : List ℕ) (memory : ℕ) (t : Transfer) (v n : ℕ) (g : Packed rights memory t v n) where
+pub some-remain : (n : ℕ) → (n ≡ 0 → ⊥) → 1 ≤ n
+some-remain n z = omega arith
+
+pub begins : (t : Transfer) (v start : ℕ) → start ≡ element_address t v 0 → (aligned : Bool) → aligned ≡ eqb (start % t.bytes) 0
+    → aligned ≡ true → Begins t v start
+begins t v start q aligned e f = record { begins = q; aligned = is-aligned start t.bytes aligned e f }
+
+module _ (rights : List ℕ) (memory : ℕ) (t : Transfer) (v n : ℕ) (g : Packed memory t v n) where
   abbrev page : ℕ → ℕ
   page i = page_of (element_address t i 0)
 
@@ -106,9 +91,6 @@ module _ (rights : List ℕ) (memory : ℕ) (t : Transfer) (v n : ℕ) (g : Pack
       → Tested all rights memory t v n (record { answer = Finished; element = 0; pages = 0; wanted = nothing_wanted })
   unfolding different_pages
   nothing-remains z = finishes all rights memory t v n 0 (λ j l. absurd (omega arith)) (rw z)
-
-  pub some-remain : (n ≡ 0 → ⊥) → 1 ≤ n
-  some-remain z = omega arith
 
   module _ (start : ℕ) (q : start ≡ element_address t v 0) where
     first-address : element_address t (v + 0) 0 ≡ start
@@ -125,9 +107,6 @@ module _ (rights : List ℕ) (memory : ℕ) (t : Transfer) (v n : ℕ) (g : Pack
         (sym (faults-misaligned rights memory t.store start t.bytes _ (misaligned t.store) aligned e f refl refl)))
         (sym p) refl (add-zero v)
         (rw (first-address, sym e ∙ f))
-
-    pub begins : (aligned : Bool) → aligned ≡ eqb (start % t.bytes) 0 → aligned ≡ true → Begins t v start
-    begins aligned e f = record { begins = q; aligned = is-aligned start t.bytes aligned e f }
 
   -- so many lie inside memory
   module _ (start inside d : ℕ) (h : Begins t v start) (less : d ≡ memory - start) (smaller : inside ≡ min n (d / t.bytes)) where
@@ -146,13 +125,13 @@ module _ (rights : List ℕ) (memory : ℕ) (t : Transfer) (v n : ℕ) (g : Pack
 
     here : (j : ℕ) → j ≤ n → start ≤ memory → element_address t (v + j) 0 ≡ at j
     here j l m =
-        onward rights memory t v n g v j (omega (arith, g.few)) (rw (← h.begins) m)
+        onward memory t v n g v j (omega (arith, g.few)) (rw (← h.begins) m)
         ∙ ap (λ (s : ℕ). s + j * t.bytes) (sym h.begins)
 
     there : (j : ℕ) → j < inside → element_address t (v + j) 0 ≡ at j
     there j l = here j (omega (arith, inside-are)) (omega (arith, within j l))
 
-    granted-at : (j : ℕ) → j < inside → needed t.store ≤ get_or rights (page_of (at j)) 0 → test_of all rights memory t (v + j) ≡ Granted
+    granted-at : (j : ℕ) → j < inside → needed t.store ≤ get_or rights (page_of (at j)) 0 → test_of all rights memory t (v + j) ≡ Ok tt
     granted-at j l r =
         rw (there j l)
         (facts-granted rights memory t.store (at j) t.bytes (record { aligned = multiple j; inside = within j l; right = r }))
@@ -201,15 +180,6 @@ module _ (rights : List ℕ) (memory : ℕ) (t : Transfer) (v n : ℕ) (g : Pack
       last_within : at (inside - 1) + t.bytes ≤ memory
       last_within = within (inside - 1) (omega arith)
 
-      pub span_fits : Fits w64 ((inside - 1) * t.bytes)
-      span_fits = record { fits = omega (arith, last_within, g.memory-length) }
-
-      pub last_fits : Fits w64 (start + (inside - 1) * t.bytes)
-      last_fits = record { fits = omega (arith, last_within, g.memory-length) }
-
-      pub first-last : start / 256 ≤ (start + (inside - 1) * t.bytes) / 256
-      first-last = omega arith
-
       -- an access has at most 128 bytes
       pub two-pages : (start + (inside - 1) * t.bytes) / 256 ≤ start / 256 + 1
       two-pages =
@@ -219,20 +189,9 @@ module _ (rights : List ℕ) (memory : ℕ) (t : Transfer) (v n : ℕ) (g : Pack
       pub last-page : (start + (inside - 1) * t.bytes) / 256 < 256
       last-page = omega (arith, last_within, g.memory-length, size-pos t.bytes g.size)
 
-      pub pages-fit : Fits w64 ((start + (inside - 1) * t.bytes) / 256 - start / 256 + 1)
-      pages-fit = record { fits = omega (arith, last-page) }
-
       module _ (closed right : ℕ) (r : right ≡ needed t.store)
           (c : FirstClosed rights right (start / 256) ((start + (inside - 1) * t.bytes) / 256) closed) where
-        pub page-fits : Fits w64 (256 * closed)
-        page-fits = record { fits = omega (arith, c.most, last-page) }
-
-        pub element-fits : (d : ℕ) → d ≡ 256 * closed - start → Fits w64 (v + d / t.bytes)
-        element-fits d e =
-            let l : d / t.bytes ≤ d = div-le_self d t.bytes in
-            record { fits = omega (arith, c.most, last-page, g.few) }
-
-        open_at : (j : ℕ) → j < inside → page_of (at j) < closed → test_of all rights memory t (v + j) ≡ Granted
+        open_at : (j : ℕ) → j < inside → page_of (at j) < closed → test_of all rights memory t (v + j) ≡ Ok tt
         open_at j l m = granted-at j l (rw (← r) (c.before (page_of (at j)) (omega arith) m))
 
         not-past-last : (j : ℕ) → j < inside → page_of (at j) ≤ page_of (at (inside - 1))
@@ -272,7 +231,7 @@ module _ (rights : List ℕ) (memory : ℕ) (t : Transfer) (v n : ℕ) (g : Pack
 
         -- no page of theirs is closed
         module _ (q : page_of (at (inside - 1)) < closed) where
-          all-open : (j : ℕ) → j < inside → test_of all rights memory t (v + j) ≡ Granted
+          all-open : (j : ℕ) → j < inside → test_of all rights memory t (v + j) ≡ Ok tt
           all-open j l = open_at j l (omega (arith, not-past-last j l))
 
           all-pages : pages_from all rights memory t v inside ≡ page_of (at (inside - 1)) - start / 256 + 1

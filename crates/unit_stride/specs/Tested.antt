@@ -1,12 +1,11 @@
 -- For contracts of inner functions, not to be believed: what comes of testing the elements of a unit-stride access, by pages or one after
 -- the other, and what these functions rely on.
-use Rattle.std.specs.Prelude.{ℕ, suc, ◌+◌, ◌*◌, ◌%◌, ◌≤◌, ◌<◌, ◌≡◌, Bool, true, ◌&&◌, cond, List, length, get_or, T, leb}
+use Rattle.std.specs.Prelude.{ℕ, suc, ◌+◌, ◌*◌, ◌%◌, ◌≤◌, ◌<◌, ◌≡◌, Bool, true, ◌&&◌, cond, List, get_or, T, leb}
+use Rattle.std.specs.Prelude.{Result, Ok, Err, ⊤}
 use Rattle.width.specs.Width.{flag}
 use Rattle.answer.specs.declared.Answer.TheVariants.{Finished}
 use Rattle.layout.specs.Layout.{byte_size, Inside}
 use Rattle.access.specs.declared.Fault.{Fault}
-use Rattle.access.specs.declared.AccessTest.{AccessTest}
-use Rattle.access.specs.declared.AccessTest.TheVariants.{Granted, Faulted}
 use Rattle.access.specs.Access.{page_of, nothing_wanted, access_of}
 use Rattle.plan.specs.declared.Transfer.{Transfer}
 use Rattle.machine.specs.Effect.{element_address}
@@ -15,8 +14,7 @@ use Rattle.unit_stride.specs.declared.Tally.{Tally}
 use Rattle.unit_stride.specs.Pages.{different_pages, page_tested}
 
 -- the n elements of a unit-stride access from element v up
-pub record Packed (rights : List ℕ) (memory : ℕ) (t : Transfer) (v n : ℕ) : Type 0 where
-  pub rights-length : length rights ≡ 256
+pub record Packed (memory : ℕ) (t : Transfer) (v n : ℕ) : Type 0 where
   pub memory-length : memory ≤ 65536
   pub size : T (byte_size t.bytes)
   pub stride : t.stride ≡ t.bytes
@@ -38,17 +36,17 @@ all i = true
 
 module _ (active : ℕ → Bool) (rights : List ℕ) (memory : ℕ) (t : Transfer) where
   -- element i
-  abbrev pub test_of : ℕ → AccessTest
-  test_of i = cond (active i) (access_of rights memory t.store (element_address t i 0) t.bytes) Granted
+  abbrev pub test_of : ℕ → Result ⊤ Fault
+  test_of i = cond (active i) (access_of rights memory t.store (element_address t i 0) t.bytes) (Ok tt)
 
   abbrev pub pages_from : ℕ → ℕ → ℕ
   pages_from v n = different_pages active (λ (i : ℕ). page_of (element_address t i 0)) v n
 
   -- none of the n elements from v up faults, or element v + k is the first that does
   pub data Tested (v n : ℕ) : Checked → Type 0 where
-    none-faults : ((j : ℕ) → j < n → test_of (v + j) ≡ Granted)
+    none-faults : ((j : ℕ) → j < n → test_of (v + j) ≡ Ok tt)
         → Tested v n (record { answer = Finished; element = 0; pages = pages_from v n; wanted = nothing_wanted })
-    first-faults : (k : ℕ) (f : Fault) → k < n → ((j : ℕ) → j < k → test_of (v + j) ≡ Granted) → test_of (v + k) ≡ Faulted f
+    first-faults : (k : ℕ) (f : Fault) → k < n → ((j : ℕ) → j < k → test_of (v + j) ≡ Ok tt) → test_of (v + k) ≡ Err f
         → Tested v n (record {
           answer = f.answer;
           element = v + k;

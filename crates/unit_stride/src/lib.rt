@@ -2,21 +2,22 @@
 
 #![tactic(auto)]
 
-ghost use Rattle.std.specs.Prelude.{◌≡◌, true, cond, ◌+◌, ◌^◌, ◌≤◌, ◌<◌, length, T};
+ghost use Rattle.std.specs.Prelude.{◌≡◌, true, cond, ◌+◌, ◌^◌, ◌≤◌, ◌<◌, length, T, Ok};
+ghost use Rattle.answer.specs.declared.Answer.TheVariants.{Finished};
 ghost use Rattle.layout.specs.Layout.{byte_size};
-ghost use Rattle.access.specs.declared.AccessTest.TheVariants.{Granted};
-ghost use Rattle.access.specs.Access.{access_of};
+ghost use Rattle.access.specs.Access.{nothing_wanted, access_of};
 ghost use Rattle.machine.specs.Effect.{active_of};
 ghost use Rattle.unit_stride.specs.Pages.{page_tested};
 ghost use Rattle.unit_stride.specs.Tested.{Packed, Begins, MaskInside, all, Tested, FirstClosed, tallied_of};
 
-use access::{AccessTest, Wanted};
+use access::{Fault, Wanted};
 use answer::Answer;
 use control::Board;
 use plan::Transfer;
 
 // What is found: the answer, the element that would fault, the number of pages tested, and what was wanted of which page.
-#[derive(Clone, Copy)]
+// It is no Result, since `pages` stands beside every answer (`none-faults` and `first-faults`, specs/Tested).
+#[derive(Clone, Copy, PartialEq, Eq)]
 pub struct Checked {
     pub answer: Answer,
     pub element: u64,
@@ -24,37 +25,50 @@ pub struct Checked {
     pub wanted: Wanted,
 }
 
+impl Checked {
+    // None of the elements faults.
+    fn finished(pages: u64) -> Checked
+        ensures { result ≡ record { answer = Finished; element = 0; pages = pages; wanted = nothing_wanted } }
+    {
+        Checked {
+            answer: Answer::Finished,
+            element: 0,
+            pages,
+            wanted: Wanted::NOTHING,
+        }
+    }
+}
+
 // ---- unmasked: by pages
 
 // The first of the pages from `first` to `last` that lacks the right, or the page after them. At most two are asked for.
-fn first_closed(rights: &[u8], right: u8, first: u64, last: u64) -> u64
-    requires { (length rights.now ≡ 256) × ((first ≤ last) × ((last ≤ first + 1) × (last < 256))) }
+// It is no Option, since `FirstClosed` (specs/Tested) speaks of the page after them.
+fn first_closed(rights: &[u8; 256], right: u8, first: u64, last: u64) -> u64
+    requires { (first ≤ last) × ((last ≤ first + 1) × (last < 256)) }
     ensures { FirstClosed rights.now right first last result }
 {
-    let mut page = first;
-    while page <= last {
+    for page in first..=last {
         if rights[page as usize] < right {
             return page;
         }
-        page += 1;
     }
-    page
+    last + 1
 }
 
 // The elements from the address `start` on, which is aligned: how many of them lie inside memory, and the pages of these.
 fn by_pages(
-    rights: &[u8],
+    rights: &[u8; 256],
     memory: usize,
     t: Transfer,
     vstart: u64,
     remaining: u64,
     start: u64,
 ) -> Checked
-    requires { Packed rights.now memory t vstart remaining × (Begins t vstart start × (1 ≤ remaining)) }
+    requires { Packed memory t vstart remaining × (Begins t vstart start × (1 ≤ remaining)) }
     ensures { Tested all rights.now memory t vstart remaining result }
 {
     let size = t.bytes;
-    let inside = control::smaller(remaining, control::less(memory as u64, start) / size);
+    let inside = remaining.min((memory as u64).saturating_sub(start) / size);
     if inside == 0 {
         return Checked {
             answer: access::denied_answer(t.store),
@@ -69,7 +83,7 @@ fn by_pages(
     let closed = first_closed(rights, right, first, last);
     if closed <= last {
         // the first element on that page
-        let element = vstart + control::less(256 * closed, start) / size;
+        let element = vstart + (256 * closed).saturating_sub(start) / size;
         return Checked {
             answer: access::denied_answer(t.store),
             element,
@@ -89,26 +103,22 @@ fn by_pages(
             wanted: Wanted::NOTHING,
         };
     }
-    Checked {
-        answer: Answer::Finished,
-        element: 0,
-        pages,
-        wanted: Wanted::NOTHING,
-    }
+    Checked::finished(pages)
 }
 
 // All elements are active: the start's alignment, the end of memory, and each page once.
-pub fn unmasked(rights: &[u8], memory: usize, t: Transfer, vstart: u64, remaining: u64) -> Checked
-    requires { Packed rights.now memory t vstart remaining }
+pub fn unmasked(
+    rights: &[u8; 256],
+    memory: usize,
+    t: Transfer,
+    vstart: u64,
+    remaining: u64,
+) -> Checked
+    requires { Packed memory t vstart remaining }
     ensures { Tested all rights.now memory t vstart remaining result }
 {
     if remaining == 0 {
-        return Checked {
-            answer: Answer::Finished,
-            element: 0,
-            pages: 0,
-            wanted: Wanted::NOTHING,
-        };
+        return Checked::finished(0);
     }
     let start = execute::address(t, vstart, 0);
     if !access::aligned(start, t.bytes) {
@@ -124,7 +134,8 @@ pub fn unmasked(rights: &[u8], memory: usize, t: Transfer, vstart: u64, remainin
 
 // ---- masked: one element after the other
 
-// The pages so far: how many there are, and the page after the last of them, 0 where there is none.
+// The pages so far: how many there are, and the page after the last of them. With none it is 0, which bounds the next from below as any
+// other does, so that it is no Option.
 #[derive(Clone, Copy)]
 struct Tally {
     pages: u64,
@@ -158,12 +169,12 @@ fn page_tested(memory: usize, a: u64, n: u64) -> bool
 }
 
 // An element that is active or not.
-fn test(rights: &[u8], memory: usize, t: Transfer, active: bool, a: u64) -> AccessTest
-    requires { (length rights.now ≡ 256) × ((memory ≤ 65536) × T (byte_size t.bytes)) }
-    ensures { result ≡ cond active (access_of rights.now memory t.store a t.bytes) Granted }
+fn test(rights: &[u8; 256], memory: usize, t: Transfer, active: bool, a: u64) -> Result<(), Fault>
+    requires { (memory ≤ 65536) × T (byte_size t.bytes) }
+    ensures { result ≡ cond active (access_of rights.now memory t.store a t.bytes) (Ok tt) }
 {
     if !active {
-        return AccessTest::Granted;
+        return Ok(());
     }
     access::access(rights, memory, t.store, a, t.bytes)
 }
@@ -172,44 +183,32 @@ fn test(rights: &[u8], memory: usize, t: Transfer, active: bool, a: u64) -> Acce
 fn walked(
     registers: &[u8],
     vlenb: usize,
-    rights: &[u8],
+    rights: &[u8; 256],
     memory: usize,
     t: Transfer,
     vstart: u64,
     remaining: u64,
 ) -> Checked
-    requires { Packed rights.now memory t vstart remaining × MaskInside (length registers.now) vlenb vstart remaining }
+    requires { Packed memory t vstart remaining × MaskInside (length registers.now) vlenb vstart remaining }
     ensures { Tested (active_of vlenb registers.now true) rights.now memory t vstart remaining result }
 {
     let mut tally = Tally { pages: 0, next: 0 };
-    let mut k: u64 = 0;
-    while k < remaining {
+    for k in 0..remaining {
         let i = vstart + k;
         let a = execute::address(t, i, 0);
         let active = execute::active(registers, vlenb, true, i as usize);
         let tested = active & page_tested(memory, a, t.bytes);
         tally = tallied(tally, tested, a / 256);
-        match test(rights, memory, t, active, a) {
-            AccessTest::Granted => k += 1,
-            AccessTest::Faulted(fault) => {
-                let answer = fault.answer;
-                let place = fault.place;
-                let wanted = place.wanted;
-                return Checked {
-                    answer,
-                    element: i,
-                    pages: tally.pages,
-                    wanted,
-                };
-            }
+        if let Err(fault) = test(rights, memory, t, active, a) {
+            return Checked {
+                answer: fault.answer,
+                element: i,
+                pages: tally.pages,
+                wanted: fault.place.wanted,
+            };
         }
     }
-    Checked {
-        answer: Answer::Finished,
-        element: 0,
-        pages: tally.pages,
-        wanted: Wanted::NOTHING,
-    }
+    Checked::finished(tally.pages)
 }
 
 // ---- either way
@@ -218,14 +217,14 @@ fn walked(
 pub fn tested(
     board: Board,
     registers: &[u8],
-    rights: &[u8],
+    rights: &[u8; 256],
     memory: usize,
     masked: bool,
     t: Transfer,
     vstart: u64,
     remaining: u64,
 ) -> Checked
-    requires { Packed rights.now memory t vstart remaining × MaskInside (length registers.now) board.vlenb vstart remaining }
+    requires { Packed memory t vstart remaining × MaskInside (length registers.now) board.vlenb vstart remaining }
     ensures { Tested (active_of board.vlenb registers.now masked) rights.now memory t vstart remaining result }
 {
     if masked {

@@ -1,7 +1,7 @@
 -- A group has a register and lies within the file, on any board.
 use Prim.Native.Nat.{ℕ, ◌+◌, ◌*◌, ◌%◌, ◌≤◌, ◌<◌}
 use mathlib.Core.List.{List}
-use mathlib.Core.Path.{◌≡◌, refl}
+use mathlib.Core.Path.{◌≡◌, refl, sym, subst}
 use mathlib.Core.Bool.{Bool, true, false, not, ◌||◌, cond}
 use native.Mathlib.Nat.{mul-le-mul_right}
 use native.Mathlib.Omega.{arith}
@@ -10,10 +10,11 @@ use lib.Dec.{eqb, lit≤}
 use lib.ListN.{length, length-drop}
 use lib.Seq.{length-take-le}
 use Rattle.laws.proofs.Apart.{apart}
-use Rattle.answer.specs.Answer.{number_of}
+use Rattle.std.specs.Prelude.{Result, Ok, Err}
+use Rattle.answer.specs.declared.Answer.{Answer}
 use Rattle.control.specs.declared.Board.{Board}
 use Rattle.view.specs.declared.ViewPlace.{ViewPlace}
-use Rattle.view.specs.View.{is_group_of, place_of, part_of, point_at}
+use Rattle.view.specs.View.{is_group_of, place_of, start_of, size_of, part_in, part_of}
 
 either : {P : Type 0} (p q : Bool) → (p || q) ≡ true → (p ≡ true → P) → (q ≡ true → P) → P
 either true q e f g = f refl
@@ -41,35 +42,29 @@ within f n e =
     sizes (λ k. f % k ≡ 0 → f + k ≤ 32) n (search apart) (λ h. omega arith) (λ h. omega arith) (λ h. omega arith) (λ h. omega arith) r
 
 -- by cases on a test that must hold
-unless : (P : ViewPlace → Type 0) (t : Bool) (x y : ViewPlace) → P x → (t ≡ true → P y) → P (cond (not t) x y)
+unless : {T : Type 0} (P : T → Type 0) (t : Bool) (x y : T) → P x → (t ≡ true → P y) → P (cond (not t) x y)
 unless P true x y p q = q refl
 unless P false x y p q = p
 
 -- a part ends within the file, so it has as many bytes as its place says
-pub part_end : (b : Board) (bytes f n : ℕ) (p : ViewPlace) → p ≡ place_of b bytes f n → p.start + p.size ≤ bytes
+pub part_end : (b : Board) (bytes f n : ℕ) → start_of (place_of b bytes f n) + size_of (place_of b bytes f n) ≤ bytes
 unfolding place_of
-part_end b bytes f n p e =
-    rw e
-    (unless (λ q. q.start + q.size ≤ bytes) (eqb bytes (32 * b.vlenb)) _ _
+part_end b bytes f n =
+    unless (λ q. start_of q + size_of q ≤ bytes) (eqb bytes (32 * b.vlenb)) _ _
     (omega arith)
-    (λ h. unless (λ q. q.start + q.size ≤ bytes) (is_group_of f n) _ _
+    (λ h. unless (λ q. start_of q + size_of q ≤ bytes) (is_group_of f n) _ _
     (omega arith)
-    (λ g. omega (arith, eqb-true bytes (32 * b.vlenb) h, mul-le-mul_right b.vlenb (within f n g)))))
+    (λ g. omega (arith, eqb-true bytes (32 * b.vlenb) h, mul-le-mul_right b.vlenb (within f n g))))
 
-pub part_length : (b : Board) (l : List ℕ) (f n : ℕ) → length (part_of b l f n) ≡ (place_of b (length l) f n).size
-part_length b l f n = length-take-le _ _ (rw (length-drop _ l) (omega (arith, part_end b (length l) f n _ refl)))
+-- the same of a place that there is
+pub ends-within : (b : Board) (bytes f n : ℕ) (p : ViewPlace) → Ok p ≡ place_of b bytes f n → p.start + p.size ≤ bytes
+ends-within b bytes f n p e =
+    let P : Result ViewPlace Answer → Type 0 = λ q. start_of q + size_of q ≤ bytes in
+    subst P (sym e) (part_end b bytes f n)
 
--- ---- what is on a board b is on the board that a promise names, where b is that board
-module _ (b named : Board) (e : b ≡ named) (f n : ℕ) where
-  pub place-by : (bytes : ℕ) (p : ViewPlace) → p ≡ place_of b bytes f n → p ≡ place_of named bytes f n
-  place-by bytes p h = rw (← e) h
-
-  pub part_by : (l part : List ℕ) → part ≡ part_of b l f n → part ≡ part_of named l f n
-  part_by l part h = rw (← e) h
-
-  pub number_by : (bytes x : ℕ) → x ≡ number_of (place_of b bytes f n).answer → x ≡ number_of (place_of named bytes f n).answer
-  number_by bytes x h = rw (← e) h
-
-  pub point-by : (bytes : ℕ) (file p : ℕ × ℕ) → p ≡ point_at file (place_of b bytes f n).start
-      → p ≡ point_at file (place_of named bytes f n).start
-  point-by bytes file p h = rw (← e) h
+pub part_length : (b : Board) (l : List ℕ) (f n : ℕ) → length (part_of b l f n) ≡ size_of (place_of b (length l) f n)
+part_length b l f n = of-place (place_of b (length l) f n) (part_end b (length l) f n)
+  where
+    of-place : (q : Result ViewPlace Answer) → start_of q + size_of q ≤ length l → length (part_in q l) ≡ size_of q
+    of-place (Ok p) h = length-take-le _ _ (rw (length-drop _ l) (omega arith))
+    of-place (Err a) h = refl

@@ -3,17 +3,15 @@
 #![tactic(auto)]
 
 ghost use Rattle.std.specs.Prelude.{◌≡◌, length};
-ghost use Rattle.answer.specs.Answer.{number_of};
-ghost use Rattle.control.specs.Board.{Valid, base, small};
-ghost use Rattle.view.specs.View.{is_group_of, no_part, place_of, part_of, point_at};
+ghost use Rattle.answer.specs.Answer.{answer_of};
+ghost use Rattle.view.specs.View.{is_group_of, place_of, start_of, part_of, point_at};
 
 use answer::Answer;
 use control::Board;
 
-// Where a group lies in the file, in bytes: both numbers are 0 beside any other answer than 0.
-#[derive(Clone, Copy)]
+// Where a group lies in the file, in bytes.
+#[derive(Clone, Copy, PartialEq, Eq)]
 pub struct ViewPlace {
-    pub answer: Answer,
     pub start: usize,
     pub size: usize,
 }
@@ -28,114 +26,53 @@ fn is_group(first: usize, count: usize) -> bool
     false
 }
 
-// No part of the file, beside an answer.
-fn no_part(answer: Answer) -> ViewPlace
-    ensures { result ≡ no_part answer }
-{
-    ViewPlace {
-        answer,
-        start: 0,
-        size: 0,
-    }
-}
-
-// The place of a group on a board, in a file of so many bytes.
-fn place_on(board: Board, bytes: usize, first: usize, count: usize) -> ViewPlace
-    requires { Valid board }
+// The place of a group on a board, in a file of so many bytes, or the answer that refuses it.
+pub fn place(board: Board, bytes: usize, first: usize, count: usize) -> Result<ViewPlace, Answer>
     ensures { result ≡ place_of board bytes first count }
 {
-    let whole = bytes as u64 == 32 * (board.vlenb as u64);
-    let group = is_group(first, count);
-    if !whole {
-        return no_part(Answer::BadRegisters);
-    }
-    if !group {
-        return no_part(Answer::NoGroup);
-    }
     let vlenb = board.vlenb as usize;
-    ViewPlace {
-        answer: Answer::Finished,
+    if bytes != 32 * vlenb {
+        return Err(Answer::BadRegisters);
+    }
+    if !is_group(first, count) {
+        return Err(Answer::NoGroup);
+    }
+    Ok(ViewPlace {
         start: vlenb * first,
         size: vlenb * count,
-    }
+    })
 }
 
-// The bytes of the group, or an empty part; the answer's number beside it.
-fn view_with_on<'a>(
+// The bytes of the group, or an empty part; the answer beside it. (No Result: document 01 asks for a part of the file, or an empty part on
+// refusal.)
+pub fn view_with<'a>(
     board: Board,
     registers: &'a [u8],
     first: usize,
     count: usize,
-    answer: &mut u64,
+    answer: &mut Answer,
 ) -> &'a [u8]
-    requires { Valid board }
-    ensures { (result.now ≡ part_of board registers.now first count)
-        × ((answer.new ≡ number_of (place_of board (length registers.now) first count).answer)
-        × (result.ref_ptr ≡ point_at registers.entry.ref_ptr (place_of board (length registers.now) first count).start)) }
+    ensures part { result.now ≡ part_of board registers.now first count }
+    ensures answered { answer.new ≡ answer_of (place_of board (length registers.now) first count) }
+    ensures place { result.ref_ptr ≡ point_at registers.entry.ref_ptr (start_of (place_of board (length registers.now) first count)) }
 {
-    let found = place_on(board, registers.len(), first, count);
-    let found_answer = found.answer;
-    *answer = answer::number(found_answer);
-    let start = found.start;
-    let end = start + found.size;
-    &registers[start..end]
+    match place(board, registers.len(), first, count) {
+        Ok(place) => {
+            *answer = Answer::Finished;
+            &registers[place.start..place.start + place.size]
+        }
+        Err(refused) => {
+            *answer = refused;
+            &registers[..0]
+        }
+    }
 }
 
 // The same without the answer.
-fn view_on(board: Board, registers: &[u8], first: usize, count: usize) -> &[u8]
-    requires { Valid board }
-    ensures { (result.now ≡ part_of board registers.now first count)
-        × (result.ref_ptr ≡ point_at registers.entry.ref_ptr (place_of board (length registers.now) first count).start) }
+pub fn view(board: Board, registers: &[u8], first: usize, count: usize) -> &[u8]
+    ensures part { result.now ≡ part_of board registers.now first count }
+    ensures place { result.ref_ptr ≡ point_at registers.entry.ref_ptr (start_of (place_of board (length registers.now) first count)) }
 {
-    let mut answer = 0u64;
-    view_with_on(board, registers, first, count, &mut answer)
-}
-
-// ---- the calls of each board
-
-pub fn place(bytes: usize, first: usize, count: usize) -> ViewPlace
-    ensures { result ≡ place_of base bytes first count }
-{
-    place_on(Board::base(), bytes, first, count)
-}
-
-pub fn small_place(bytes: usize, first: usize, count: usize) -> ViewPlace
-    ensures { result ≡ place_of small bytes first count }
-{
-    place_on(Board::small(), bytes, first, count)
-}
-
-pub fn view_with<'a>(registers: &'a [u8], first: usize, count: usize, answer: &mut u64) -> &'a [u8]
-    ensures { (result.now ≡ part_of base registers.now first count)
-        × ((answer.new ≡ number_of (place_of base (length registers.now) first count).answer)
-        × (result.ref_ptr ≡ point_at registers.entry.ref_ptr (place_of base (length registers.now) first count).start)) }
-{
-    view_with_on(Board::base(), registers, first, count, answer)
-}
-
-pub fn small_view_with<'a>(
-    registers: &'a [u8],
-    first: usize,
-    count: usize,
-    answer: &mut u64,
-) -> &'a [u8]
-    ensures { (result.now ≡ part_of small registers.now first count)
-        × ((answer.new ≡ number_of (place_of small (length registers.now) first count).answer)
-        × (result.ref_ptr ≡ point_at registers.entry.ref_ptr (place_of small (length registers.now) first count).start)) }
-{
-    view_with_on(Board::small(), registers, first, count, answer)
-}
-
-pub fn view(registers: &[u8], first: usize, count: usize) -> &[u8]
-    ensures { (result.now ≡ part_of base registers.now first count)
-        × (result.ref_ptr ≡ point_at registers.entry.ref_ptr (place_of base (length registers.now) first count).start) }
-{
-    view_on(Board::base(), registers, first, count)
-}
-
-pub fn small_view(registers: &[u8], first: usize, count: usize) -> &[u8]
-    ensures { (result.now ≡ part_of small registers.now first count)
-        × (result.ref_ptr ≡ point_at registers.entry.ref_ptr (place_of small (length registers.now) first count).start) }
-{
-    view_on(Board::small(), registers, first, count)
+    let mut answer = Answer::Finished;
+    view_with(board, registers, first, count, &mut answer)
 }

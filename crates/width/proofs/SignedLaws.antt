@@ -1,13 +1,17 @@
 -- Signed machine integers: what a local of type i64 holds, and `signed` and `wrap` over the width.
-use Rattle.std.proofs.Common.{◌≡◌, ℕ, zero, suc, ◌+◌, ◌-◌, ◌*◌, ◌/◌, ◌%◌, ◌^◌, ◌<◌, ◌≤◌, Bool, true, false, cond, ℤ, pos, negsuc, ◌-ℤ◌, ◌*ℤ◌, neg_ℤ, nat_abs, sym, refl, ap, ◌∙◌, ap₂, subst₂, le_trans, le_of_eq, lt_of_lt_of_le, lt_of_le_of_lt, mod-lt, mod-eq_of_lt, zero-lt-suc, mul-le-mul, lt_of_not-le, zero-add, div-le_self, div-one, arith, lit<, pow_pos, pow_mono, to_z-of_z, w64, SFits, to_z, of_z, ltb-true, le-ltb, lt-ltb}
+use Rattle.std.proofs.Common.{◌≡◌, ℕ, zero, suc, ◌+◌, ◌-◌, ◌*◌, ◌/◌, ◌%◌, ◌^◌, ◌<◌, ◌≤◌, Bool, cond, ℤ, pos, negsuc, ◌-ℤ◌, ◌*ℤ◌, neg_ℤ, nat_abs, sym, refl, ap, ◌∙◌, ap₂, le_trans, le_of_eq, lt_of_lt_of_le, lt_of_le_of_lt, mod-lt, mod-eq_of_lt, mul-le-mul, lt_of_not-le, zero-add, div-le_self, div-add-mod', arith, lit<, pow_pos, pow_mono, to_z-of_z, w64, SFits, to_z, of_z, le-ltb, lt-ltb}
 use mathlib.Core.Path.{subst⁻¹}
-use native.Mathlib.Nat.{mod-add-mod, two-pow-succ, zero-mod, div-lt_self, mod-one}
+use native.Mathlib.Nat.{mul-le-mul_right}
+use Rattle.std.proofs.lemmas.Nat.{shl-shr}
+use Rattle.width.proofs.LowBits.{pow-64}
+use native.Mathlib.Nat.{mod-add-mod, two-pow-succ, zero-mod}
 use native.Mathlib.Decide.{dec_le}
 use lib.IntN.{sub_ℕ}
-use lib.Signed.{nat_abs-le, lt_z, mag, quot_z, rem_z, shr_z, mag_shr}
-use mir.Facts.{to_z_pos}
+use lib.Signed.{nat_abs-le, lt_z, mag, quot_z, shr_z, mag_shr}
+use mir.Facts.{to_z_pos, sfits_to_z, of_z-to_z}
+use mir.Val.{Fits}
 use Rattle.width.specs.Width.{Width, signed, wrap}
-use Rattle.width.proofs.Diff.{diff-is-neg, diff-is-pos, diff-eq, pos-diff, neg-diff, wrap-is, wrap-cong, mod-is, wrap-diff}
+use Rattle.width.proofs.Diff.{negsuc-diff, shr-diff, diff-is-neg, diff-is-pos, diff-eq, pos-diff, wrap-is, mod-is, wrap-diff}
 
 -- `signed` by its two cases
 pub signed_low : (w x : ℕ) → 2 * x < 2 ^ w → signed w x ≡ pos x
@@ -34,37 +38,6 @@ wrap-signed w x h = go (dec_le (2 ^ w) (2 * x))
 pub comp-pos : (k : ℕ) → negsuc 0 -ℤ pos k ≡ negsuc k
 comp-pos zero = refl
 comp-pos (suc k) = ap (λ (n : ℕ). negsuc (suc n)) (zero-add k)
-
-pub comp-neg : (n : ℕ) → negsuc 0 -ℤ negsuc n ≡ pos n
-comp-neg n = diff-is-pos (suc n) 1 n (omega arith)
-
--- what an i64 below zero is, with what `-1 - z` then is
-pub record Below (z : ℤ) : Type 0 where
-  pub n : ℕ
-  pub is : z ≡ negsuc n
-  pub bound : n < 2 ^ 63
-  pub comp : negsuc 0 -ℤ to_z w64 (of_z w64 z) ≡ pos n
-  pub back : to_z w64 (of_z w64 (negsuc 0 -ℤ to_z w64 (of_z w64 z))) ≡ pos n
-
-pub below-zero : (z : ℤ) → SFits w64 z → lt_z (to_z w64 (of_z w64 z)) (pos 0) ≡ true → Below z
-below-zero (pos n) h t = absurd (no (ltb-true n 0 (rw (to_z-of_z h) at t)))
-  where
-    no : n < 0 → ⊥
-    no l = omega arith
-below-zero (negsuc n) h t =
-    let e : negsuc 0 -ℤ to_z w64 (of_z w64 (negsuc n)) ≡ pos n = ap (λ (z : ℤ). negsuc 0 -ℤ z) (to_z-of_z h) ∙ comp-neg n in
-    record { n = n; is = refl; bound = h.sfits; comp = e; back = ap (λ (z : ℤ). to_z w64 (of_z w64 z)) e ∙ to_z_pos w64 h.sfits }
-
--- and one that is not
-pub record AtLeast (z : ℤ) : Type 0 where
-  pub n : ℕ
-  pub is : z ≡ pos n
-  pub bound : n < 2 ^ 63
-  pub back : to_z w64 (of_z w64 z) ≡ pos n
-
-pub at-least-zero : (z : ℤ) → SFits w64 z → lt_z (to_z w64 (of_z w64 z)) (pos 0) ≡ false → AtLeast z
-at-least-zero (pos n) h t = record { n = n; is = refl; bound = h.sfits; back = to_z-of_z h }
-at-least-zero (negsuc n) h t = absurd (mathlib.Core.Bool.true≢false (rw (to_z-of_z h) at t))
 
 -- a power by its half
 pub half : {w : ℕ} → 1 ≤ w → 2 ^ w ≡ 2 * 2 ^ (w - 1)
@@ -113,65 +86,20 @@ signed-mag w x h l = go (dec_le (2 ^ w) (2 * x))
         let g : 2 * x < 2 ^ w = lt_of_not-le f in
         subst⁻¹ (λ (z : ℤ). mag z < 2 ^ (w - 1)) (signed_low w x g) (omega arith)
 
--- the negative of a signed value wraps as 0 − x does
-pub wrap-neg : (w x : ℕ) → 1 ≤ w → x < 2 ^ w → wrap w (neg_ℤ (signed w x)) ≡ wrap w (sub_ℕ 0 x)
-wrap-neg w x h l =
-    let d : AsDiff w x = as-diff w x h l in
-    ap (λ (z : ℤ). wrap w (neg_ℤ z)) d.is ∙ ap (wrap w) (neg-diff x (d.k * 2 ^ w))
-    ∙ wrap-cong w (d.k * 2 ^ w) x 0 x 0 d.k (omega arith)
-
--- only 0 is 0 and only all ones is −1
+-- only 0 is 0
 pub signed-zero : (w x : ℕ) → x < 2 ^ w → signed w x ≡ pos 0 → x ≡ 0
 unfolding wrap
 signed-zero w x h e = sym (wrap-signed w x h) ∙ ap (wrap w) e ∙ zero-mod (2 ^ w)
 
-pub signed-ones : (w x : ℕ) → x < 2 ^ w → signed w x ≡ negsuc 0 → x + 1 ≡ 2 ^ w
-unfolding wrap
-signed-ones w x h e =
-    let d : x ≡ 2 ^ w - suc (0 % 2 ^ w) = sym (wrap-signed w x h) ∙ ap (wrap w) e in
-    omega (arith, zero-mod (2 ^ w), pow_pos w)
-
--- ---- quotients and remainders of an i64
-
-mag-negate : (r a : ℕ) → r ≤ suc a → mag (neg_ℤ (pos r)) ≤ a
-mag-negate zero a h = omega arith
-mag-negate (suc r) a h = omega arith
-
--- the one quotient that does not fit has the divisor −1
-pub quot_fits : (x y : ℤ) → SFits w64 x → (y ≡ negsuc 0 → ⊥) → SFits w64 (quot_z x y)
-quot_fits (pos a) (pos b) h f = record { sfits = omega (arith, div-le_self a b, h.sfits) }
-quot_fits (pos a) (negsuc b) h f =
-    record { sfits = omega (arith, mag-negate (a / suc b) a (omega (arith, div-le_self a (suc b))), h.sfits) }
-quot_fits (negsuc a) (pos b) h f = record { sfits = omega (arith, mag-negate (suc a / b) a (div-le_self (suc a) b), h.sfits) }
-quot_fits (negsuc a) (negsuc zero) h f = absurd (f refl)
-quot_fits (negsuc a) (negsuc (suc b)) h f = record { sfits = omega (arith, div-lt_self (zero-lt-suc a) (lt-two b), h.sfits) }
-  where
-    lt-two : (b : ℕ) → 1 < suc (suc b)
-    lt-two b = omega arith
-
-pub quot-minus-one : (x : ℤ) → quot_z x (negsuc 0) ≡ neg_ℤ x
-quot-minus-one (pos a) = ap (λ (n : ℕ). neg_ℤ (pos n)) (div-one a)
-quot-minus-one (negsuc a) = ap pos (div-one (suc a))
-
-pub rem-minus-one : (x : ℤ) → rem_z x (negsuc 0) ≡ pos 0
-rem-minus-one (pos a) = ap pos (mod-one a)
-rem-minus-one (negsuc a) = ap (λ (n : ℕ). neg_ℤ (pos n)) (mod-one (suc a))
-
--- the machine asks that a divisor's bits are not 0
-pub bits_pos : (y : ℤ) → SFits w64 y → (y ≡ pos 0 → ⊥) → 0 < of_z w64 y
-bits_pos (pos zero) h f = absurd (f refl)
-bits_pos (pos (suc n)) h f = omega arith
-bits_pos (negsuc n) h f = omega (arith, h.sfits)
-
 -- ---- products
-
-pub mag-le-abs : (z : ℤ) → mag z ≤ nat_abs z
-mag-le-abs (pos n) = omega arith
-mag-le-abs (negsuc n) = omega arith
 
 abs_neg : (n : ℕ) → nat_abs (neg_ℤ (pos n)) ≡ n
 abs_neg zero = refl
 abs_neg (suc n) = refl
+
+pub mag-le-abs : (z : ℤ) → mag z ≤ nat_abs z
+mag-le-abs (pos n) = omega arith
+mag-le-abs (negsuc n) = omega arith
 
 pub abs-mul : (x y : ℤ) → nat_abs (x *ℤ y) ≡ nat_abs x * nat_abs y
 abs-mul (pos a) (pos b) = refl
@@ -201,10 +129,6 @@ pub shr-back : (x : ℤ) (m : ℕ) → SFits w64 x → to_z w64 (of_z w64 (shr_z
 shr-back x m h =
     ap (λ (z : ℤ). to_z w64 (of_z w64 (shr_z z m))) (to_z-of_z h)
     ∙ to_z-of_z {w = w64} {z = shr_z x m} (record { sfits = lt_of_le_of_lt (mag_shr x m) h.sfits })
-
-pub op_fits : (f : ℤ → ℤ → ℤ) (x y : ℤ) → SFits w64 x → SFits w64 y → SFits w64 (f x y)
-    → SFits w64 (f (to_z w64 (of_z w64 x)) (to_z w64 (of_z w64 y)))
-op_fits f x y hx hy h = subst₂ (λ (a b : ℤ). SFits w64 (f a b)) (sym (to_z-of_z hx)) (sym (to_z-of_z hy)) h
 
 -- an operand, and the product of two operands of at most 32 bits
 pub signed-read : (w a : ℕ) (x : ℤ) → x ≡ signed w a → mag x < 2 ^ 63 → to_z w64 (of_z w64 x) ≡ signed w a
@@ -244,3 +168,86 @@ bias w x h l = go (dec_le (2 ^ w) (2 * x))
 -- what is taken off as half the range may as well be added
 pub wrap-half : (w n h : ℕ) → 2 ^ w ≡ h + h → wrap w (sub_ℕ n h) ≡ (n % 2 ^ w + h) % 2 ^ w
 wrap-half w n h e = ap (wrap w) (diff-eq n h (n + h) (1 * 2 ^ w) (omega arith)) ∙ wrap-diff w (n + h) 1 ∙ sym (mod-add-mod n (2 ^ w) h)
+
+-- ---- what the code of to_signed and from_signed does
+
+-- the low bits of an i64's bits
+low-of : (w : ℕ) (z : ℤ) → w ≤ 64 → nat_abs z < 2 ^ 64 → of_z w64 z % 2 ^ w ≡ wrap w z
+unfolding wrap
+low-of w (pos n) h f = refl
+low-of w (negsuc n) h f =
+    let y : ℕ = 2 ^ 64 - suc n in
+    let p : 2 ^ 64 ≡ 2 ^ (64 - w) * 2 ^ w = pow-64 h in
+    let s : y / 2 ^ w * 2 ^ w + y % 2 ^ w ≡ y = div-add-mod' y (2 ^ w) in
+    sym (ap (wrap w) (negsuc-diff n) ∙ wrap-is w 0 (suc n) (y % 2 ^ w) (2 ^ (64 - w)) (y / 2 ^ w) (mod-lt y (pow_pos w)) (omega arith))
+
+abs-fits : (z : ℤ) → SFits w64 z → nat_abs z < 2 ^ 64
+abs-fits z f = omega (arith, nat_abs-le z f.sfits)
+
+pub low-is : (w n r : ℕ) (z : ℤ) → r ≡ n % 2 ^ w → n ≡ of_z w64 (to_z w64 (of_z w64 z)) → Width w → SFits w64 z → r ≡ wrap w z
+low-is w n r z e g h f = e ∙ ap (λ (x : ℕ). x % 2 ^ w) (g ∙ ap (of_z w64) (to_z-of_z f)) ∙ low-of w z h.most (abs-fits z f)
+
+-- an integer of 64 bits, cut to an i64 first
+bits-fit : (z : ℤ) → nat_abs z < 2 ^ 64 → Fits w64 (of_z w64 z)
+bits-fit (pos n) h = record { fits = h }
+bits-fit (negsuc n) h = record { fits = omega arith }
+
+pub wrap-back : (w : ℕ) (z : ℤ) → Width w → nat_abs z < 2 ^ 64 → wrap w (to_z w64 (of_z w64 z)) ≡ wrap w z
+wrap-back w z h l =
+    let f : Fits w64 (of_z w64 z) = bits-fit z l in
+    let s : ℤ = to_z w64 (of_z w64 z) in
+    sym (low-of w s h.most (abs-fits s (sfits_to_z f))) ∙ ap (λ (n : ℕ). n % 2 ^ w) (of_z-to_z f) ∙ low-of w z h.most l
+
+-- a difference of multiples of 2 ^ k, shifted down
+down : (k x m : ℕ) (s : ℤ) → s ≡ sub_ℕ (x * 2 ^ k) (m * 2 ^ k) → SFits w64 s
+    → to_z w64 (of_z w64 (shr_z (to_z w64 (of_z w64 s)) (2 ^ k))) ≡ sub_ℕ x m
+down k x m s e f =
+    shr-back s (2 ^ k) f ∙ ap (λ (z : ℤ). shr_z z (2 ^ k)) e ∙ shr-diff (2 ^ k) (x * 2 ^ k) m (pow_pos k)
+    ∙ ap (λ (y : ℕ). sub_ℕ y m) (shl-shr x k)
+
+-- w bits shifted to the top of an i64 and down again
+pub shifted : (w x : ℕ) (s : ℤ) → Width w → x < 2 ^ w → s ≡ to_z w64 (x * 2 ^ (64 - w) % 2 ^ 64)
+    → to_z w64 (of_z w64 (shr_z (to_z w64 (of_z w64 s)) (2 ^ (64 - w)))) ≡ signed w x
+shifted w x s h l e = go (dec_le (2 ^ w) (2 * x))
+  where
+    go : Dec (2 ^ w ≤ 2 * x) → to_z w64 (of_z w64 (shr_z (to_z w64 (of_z w64 s)) (2 ^ (64 - w)))) ≡ signed w x
+    go (yes f) =
+        let u : ℕ = 2 ^ (64 - w) in
+        let p : 2 ^ 64 ≡ u * 2 ^ w = pow-64 h.most in
+        let m : suc x * u ≤ 2 ^ w * u = mul-le-mul_right u l in
+        let g : 2 ^ w * u ≤ 2 * x * u = mul-le-mul_right u f in
+        let b : 0 < u = pow_pos (64 - w) in
+        let k : ℕ = 2 ^ 64 - suc (x * u) in
+        let t : k < 2 ^ 63 = omega arith in
+        let i : s ≡ negsuc k =
+        e ∙ ap (to_z w64) (mod-eq_of_lt (omega arith) ∙ omega arith) ∙ to_z-of_z {w = w64} {z = negsuc k} (record { sfits = t }) in
+        down (64 - w) x (2 ^ w) s (i ∙ sym (diff-is-neg (x * u) (2 ^ w * u) k (omega arith))) (rw i (record { sfits = t }))
+        ∙ sym (signed_high w x f)
+    go (no f) =
+        let u : ℕ = 2 ^ (64 - w) in
+        let p : 2 ^ 64 ≡ u * 2 ^ w = pow-64 h.most in
+        let g : 2 * x < 2 ^ w = lt_of_not-le f in
+        let m : suc (2 * x) * u ≤ 2 ^ w * u = mul-le-mul_right u g in
+        let b : 0 < u = pow_pos (64 - w) in
+        let t : x * u < 2 ^ 63 = omega arith in
+        let i : s ≡ pos (x * u) = e ∙ ap (to_z w64) (mod-eq_of_lt (omega arith)) ∙ to_z_pos w64 t in
+        down (64 - w) x 0 s (i ∙ pos-diff (x * u) ∙ ap (sub_ℕ (x * u)) (omega arith)) (rw i (record { sfits = t }))
+        ∙ sym (signed_low w x g ∙ pos-diff x)
+
+-- ---- quotients and remainders of an i64
+
+pub quot-abs : (x y : ℤ) → nat_abs (quot_z x y) ≤ nat_abs x
+quot-abs (pos a) (pos b) = div-le_self a b
+quot-abs (pos a) (negsuc b) = le_trans (le_of_eq (abs_neg (a / suc b))) (div-le_self a (suc b))
+quot-abs (negsuc a) (pos b) = le_trans (le_of_eq (abs_neg (suc a / b))) (div-le_self (suc a) b)
+quot-abs (negsuc a) (negsuc b) = div-le_self (suc a) (suc b)
+
+-- what wraps is the quotient's low bits, also of the least i64 by −1
+pub quotient-wraps : (w : ℕ) (x y : ℤ) → Width w → SFits w64 x → wrap w (to_z w64 (of_z w64 (quot_z x y))) ≡ wrap w (quot_z x y)
+quotient-wraps w x y h f = wrap-back w (quot_z x y) h (lt_of_le_of_lt (quot-abs x y) (abs-fits x f))
+
+-- the machine asks that a divisor's bits are not 0
+pub bits_pos : (y : ℤ) → SFits w64 y → (y ≡ pos 0 → ⊥) → 0 < of_z w64 y
+bits_pos (pos zero) h f = absurd (f refl)
+bits_pos (pos (suc n)) h f = omega arith
+bits_pos (negsuc n) h f = omega (arith, h.sfits)

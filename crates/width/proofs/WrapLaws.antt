@@ -1,15 +1,14 @@
 -- Laws of `wrap` and `signed`, over the width.
-use Rattle.std.proofs.Common.{◌≡◌, ℕ, ◌+◌, ◌-◌, ◌*◌, ◌/◌, ◌%◌, ◌^◌, ◌≤◌, sym, ap, ◌∙◌, mod-lt, div-add-mod', arith, pow_pos}
+use Rattle.std.proofs.Common.{◌≡◌, ℕ, ◌+◌, ◌-◌, ◌*◌, ◌/◌, ◌%◌, ◌^◌, ◌≤◌, sym, ◌∙◌, mod-lt, div-add-mod', arith, pow_pos}
 use lib.IntN.{sub_ℕ}
 use Rattle.width.specs.Width.{wrap}
 use Rattle.width.proofs.Diff.{wrap-is}
-use Rattle.width.proofs.LowBits.{pow-64}
+use Rattle.width.proofs.LowBits.{pow-64, low-low}
 
--- a − b modulo 2 ^ w, from the r that b added to wraps back to a at 64 bits
-pub sub_low : (w a b r : ℕ) → w ≤ 64 → (r + b) % 2 ^ 64 ≡ a → r % 2 ^ w ≡ wrap w (sub_ℕ a b)
-sub_low w a b r h e =
-    let q : ℕ = (r + b) / 2 ^ 64 in
-    let d : q * 2 ^ 64 + a ≡ r + b = ap (λ (x : ℕ). q * 2 ^ 64 + x) (sym e) ∙ div-add-mod' (r + b) (2 ^ 64) in
-    let s : r / 2 ^ w * 2 ^ w + r % 2 ^ w ≡ r = div-add-mod' r (2 ^ w) in
-    let p : q * 2 ^ 64 ≡ q * (2 ^ (64 - w) * 2 ^ w) = ap (λ (x : ℕ). q * x) (pow-64 h) in
-    sym (wrap-is w a b (r % 2 ^ w) (q * 2 ^ (64 - w)) (r / 2 ^ w) (mod-lt r (pow_pos w)) (omega arith))
+-- a − b modulo 2 ^ w, from the difference that wraps at 64 bits
+pub sub_low : (w a b : ℕ) → w ≤ 64 → b ≤ 2 ^ 64 → (a + (2 ^ 64 - b)) % 2 ^ 64 % 2 ^ w ≡ wrap w (sub_ℕ a b)
+sub_low w a b h l =
+    let n : ℕ = a + (2 ^ 64 - b) in
+    let s : n / 2 ^ w * 2 ^ w + n % 2 ^ w ≡ n = div-add-mod' n (2 ^ w) in
+    let p : 2 ^ 64 ≡ 2 ^ (64 - w) * 2 ^ w = pow-64 h in
+    low-low n h ∙ sym (wrap-is w a b (n % 2 ^ w) (2 ^ (64 - w)) (n / 2 ^ w) (mod-lt n (pow_pos w)) (omega arith))

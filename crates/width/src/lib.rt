@@ -1,91 +1,76 @@
 #![tactic(auto)]
 
-ghost use Rattle.std.specs.Prelude.{◌≡◌, ◌+◌, ◌*◌, ◌%◌, ◌^◌, ◌<◌};
+ghost use Rattle.std.specs.Prelude.{◌≡◌, ◌+◌, ◌*◌, ◌%◌, ◌^◌, ◌<◌, ◌≤◌};
 ghost use Rattle.std.proofs.Math.IntN.{sub_ℕ};
-ghost use Rattle.width.specs.Width.{Width, signed, wrap, flag};
+ghost use Rattle.width.specs.Width.{signed, wrap};
 
-// A mask bit.
-pub fn flagged(test: bool) -> u64
-    ensures { result ≡ flag test }
-{
-    if test { 1 } else { 0 }
+// A width in bits, as of an element (EEW, the effective element width).
+#[derive(Clone, Copy, PartialEq, Eq)]
+pub struct Eew {
+    pub bits: u64,
+    pub ghost some: { 1 ≤ bits },
+    pub ghost most: { bits ≤ 64 },
 }
 
-// The number of sew ones.
-pub fn ones(sew: u64) -> u64
-    requires { Width sew }
-    ensures { result + 1 ≡ 2 ^ sew }
-{
-    0xffff_ffff_ffff_ffff >> (64 - sew)
-}
-
-// The low sew bits of x.
-pub fn low(sew: u64, x: u64) -> u64
-    requires { Width sew }
-    ensures { result ≡ x % 2 ^ sew }
-{
-    x & ones(sew)
-}
-
-// The sum, wrapped at sew bits.
-pub fn add(sew: u64, a: u64, b: u64) -> u64
-    requires { Width sew }
-    ensures { result ≡ (a + b) % 2 ^ sew }
-{
-    low(sew, std::num::wrapping_add_u64(a, b))
-}
-
-// a - b, wrapped at sew bits.
-pub fn sub(sew: u64, a: u64, b: u64) -> u64
-    requires { Width sew }
-    ensures { result ≡ wrap sew (sub_ℕ a b) }
-{
-    low(sew, std::num::wrapping_sub_u64(a, b))
-}
-
-// The low 64 bits of a product: the high halves' product is a multiple of 2^64, and the two
-// mixed products count by their low 32 bits alone.
-pub fn mul64(a: u64, b: u64) -> u64
-    ensures { result ≡ a * b % 2 ^ 64 }
-{
-    let a1 = a / 0x1_0000_0000;
-    let a0 = a % 0x1_0000_0000;
-    let b1 = b / 0x1_0000_0000;
-    let b0 = b % 0x1_0000_0000;
-    let mixed = std::num::wrapping_add_u64(a1 * b0, a0 * b1);
-    std::num::wrapping_add_u64(a0 * b0, mixed << 32)
-}
-
-// The product, wrapped at sew bits.
-pub fn mul(sew: u64, a: u64, b: u64) -> u64
-    requires { Width sew }
-    ensures { result ≡ a * b % 2 ^ sew }
-{
-    low(sew, mul64(a, b))
-}
-
-// The signed value of an element.
-pub fn to_signed(sew: u64, x: u64) -> i64
-    requires { Width sew × (x < 2 ^ sew) }
-    ensures { result ≡ signed sew x }
-{
-    let m = ones(sew);
-    if x <= m / 2 {
-        x as i64
-    } else {
-        -1 - ((m - x) as i64)
+impl Eew {
+    // Twice the width, of a widened element.
+    pub fn doubled(self) -> Eew
+        requires { 2 * self.bits ≤ 64 }
+        ensures { result.bits ≡ 2 * self.bits }
+    {
+        Eew {
+            bits: 2 * self.bits,
+        }
     }
-}
 
-// An integer's low sew bits.
-pub fn from_signed(sew: u64, z: i64) -> u64
-    requires { Width sew }
-    ensures { result ≡ wrap sew z }
-{
-    let m = ones(sew);
-    if z < 0 {
-        m - (((-1 - z) as u64) & m)
-    } else {
-        (z as u64) & m
+    // The number of as many ones as the width has bits.
+    pub fn ones(self) -> u64
+        ensures { result + 1 ≡ 2 ^ self.bits }
+    {
+        u64::MAX >> (64 - self.bits)
+    }
+
+    // The low bits of x.
+    pub fn low(self, x: u64) -> u64
+        ensures { result ≡ x % 2 ^ self.bits }
+    {
+        x & self.ones()
+    }
+
+    // The sum, wrapped at the width.
+    pub fn add(self, a: u64, b: u64) -> u64
+        ensures { result ≡ (a + b) % 2 ^ self.bits }
+    {
+        self.low(a.wrapping_add(b))
+    }
+
+    // a - b, wrapped at the width.
+    pub fn sub(self, a: u64, b: u64) -> u64
+        ensures { result ≡ wrap self.bits (sub_ℕ a b) }
+    {
+        self.low(a.wrapping_sub(b))
+    }
+
+    // The product, wrapped at the width.
+    pub fn mul(self, a: u64, b: u64) -> u64
+        ensures { result ≡ a * b % 2 ^ self.bits }
+    {
+        self.low(a.wrapping_mul(b))
+    }
+
+    // The signed value of an element: its top bit becomes the i64's, and is copied down again.
+    pub fn to_signed(self, x: u64) -> i64
+        requires { x < 2 ^ self.bits }
+        ensures { result ≡ signed self.bits x }
+    {
+        let above = 64 - self.bits;
+        (x << above).cast_signed() >> above
+    }
+
+    // An integer's low bits.
+    pub fn from_signed(self, z: i64) -> u64
+        ensures { result ≡ wrap self.bits z }
+    {
+        self.low(z.cast_unsigned())
     }
 }

@@ -14,7 +14,7 @@ overflow_add-last c = search (last_fits, is-aligned)
 
 pub returns-then-size-last : goal.returns-then-size-last
 returns-then-size-last c = faults-past-memory _ _ _ _ _ (is-aligned _ _ _ c.aligned.ensures c.if-not-aligned.false) _ _
-    c.requires.1.1 (omega (arith, c.if-size-last.true)) c.denied_answer.ensures c.fault_at-then-size-last.ensures
+    c.requires.1 (omega (arith, c.if-size-last.true)) c.denied_answer.ensures c.fault_at-then-size-last.ensures
 
 pub returns-then-right-own : goal.returns-then-right-own
 returns-then-right-own c = search (granted, is-aligned, rules)

@@ -2,7 +2,7 @@ use Rattle.access_check.proofs.WordLaws.{computes-not, permutes-not, of-transfer
 use Rattle.access_check.proofs.elements.Goals as goal
 
 pub tested-requires : goal.tested-requires
-tested-requires c = rw c.less.ensures (c.requires.0 _ c.in-Transfer.is, c.requires.1)
+tested-requires c = rw c.saturating_sub.ensures (c.requires.0 _ c.in-Transfer.is, c.requires.1)
 
 pub returns-in-Compute : goal.returns-in-Compute
 returns-in-Compute c = λ t e. absurd (search computes-not)

@@ -1,12 +1,6 @@
 use Rattle.access.proofs.AccessLaws.{segment-inside}
-use Rattle.execute.proofs.StepLaws.{faulted, moved}
 use Rattle.execute.proofs.transfer.Goals as goal
 
 pub move_fields-requires : goal.move_fields-requires
-move_fields-requires c = (c.requires.0, (c.requires.1.0, (c.requires.1.1.1.1, (c.requires.1.1.1.0, search segment-inside))))
-
-pub returns-in-Faulted : goal.returns-in-Faulted
-returns-in-Faulted c = search faulted
-
-pub returns-in-Granted : goal.returns-in-Granted
-returns-in-Granted c = search moved
+move_fields-requires c =
+    (c.requires.0, (c.requires.1.0, (c.requires.1.1.1, (c.requires.1.1.0, search (segment-inside, c.in_ok-segment.was)))))

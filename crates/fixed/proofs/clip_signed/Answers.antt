@@ -1,14 +1,12 @@
-use Rattle.fixed.proofs.ClipLaws.{least_fits, signed-under, signed-over, signed-within}
+use mathlib.Core.Path.{◌∙◌}
+use Rattle.fixed.proofs.ClipLaws.{signed-under, signed-over, signed-within}
 use Rattle.fixed.proofs.clip_signed.Goals as goal
 
-pub overflow_sub-top : goal.overflow_sub-top
-overflow_sub-top c = search least_fits
-
 pub returns-then-z-top : goal.returns-then-z-top
-returns-then-z-top c = search signed-under
+returns-then-z-top c = c.saturated.ensures ∙ search signed-under
 
 pub returns-then-top-z : goal.returns-then-top-z
-returns-then-top-z c = search signed-over
+returns-then-top-z c = c.saturated-then-top-z.ensures ∙ search signed-over
 
 pub returns : goal.returns
-returns c = search signed-within
+returns c = c.exact.ensures ∙ search signed-within

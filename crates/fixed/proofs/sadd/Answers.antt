@@ -1,20 +1,21 @@
+use mathlib.Core.Path.{◌∙◌}
+use Prim.Native.Nat.{ℕ, ◌/◌, ◌<◌, ◌≤◌}
+use native.Mathlib.Omega.{arith}
 use Rattle.fixed.proofs.SumLaws.{sums}
 use Rattle.fixed.proofs.sadd.Goals as goal
 
 pub returns-then-h-s : goal.returns-then-h-s
-returns-then-h-s c = search sums
+returns-then-h-s c = c.saturated.ensures ∙ search sums
 
 pub returns-then-s-h : goal.returns-then-s-h
-returns-then-s-h c = search sums
+returns-then-s-h c = c.saturated-then-s-h.ensures ∙ search sums
 
-pub returns-else-h-s : goal.returns-else-h-s
-returns-else-h-s c = search sums
-
-pub returns-else-b-h : goal.returns-else-b-h
-returns-else-b-h c = search sums
-
-pub returns-else-s-h : goal.returns-else-s-h
-returns-else-s-h c = search sums
-
-pub returns-else-h-b : goal.returns-else-h-b
-returns-else-h-b c = search sums
+pub returns : goal.returns
+returns c =
+    let a : ℕ = c.args.a in
+    let b : ℕ = c.args.b in
+    let h : ℕ = c.ones-h.result / 2 in
+    let s : ℕ = c.add-s.result in
+    let f : (a ≤ h → b ≤ h → s ≤ h) = λ p q. omega arith in
+    let g : (h < a → h < b → h < s) = λ p q. omega arith in
+    c.exact.ensures ∙ search sums

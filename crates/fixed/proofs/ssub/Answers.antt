@@ -1,20 +1,21 @@
+use mathlib.Core.Path.{◌∙◌}
+use Prim.Native.Nat.{ℕ, ◌/◌, ◌<◌, ◌≤◌}
+use native.Mathlib.Omega.{arith}
 use Rattle.fixed.proofs.SumLaws.{differences}
 use Rattle.fixed.proofs.ssub.Goals as goal
 
 pub returns-then-h-s : goal.returns-then-h-s
-returns-then-h-s c = search differences
+returns-then-h-s c = c.saturated.ensures ∙ search differences
 
 pub returns-then-s-h : goal.returns-then-s-h
-returns-then-s-h c = search differences
+returns-then-s-h c = c.saturated-then-s-h.ensures ∙ search differences
 
-pub returns-else-h-s : goal.returns-else-h-s
-returns-else-h-s c = search differences
-
-pub returns-else-h-b : goal.returns-else-h-b
-returns-else-h-b c = search differences
-
-pub returns-else-s-h : goal.returns-else-s-h
-returns-else-s-h c = search differences
-
-pub returns-else-b-h : goal.returns-else-b-h
-returns-else-b-h c = search differences
+pub returns : goal.returns
+returns c =
+    let a : ℕ = c.args.a in
+    let b : ℕ = c.args.b in
+    let h : ℕ = c.ones-h.result / 2 in
+    let s : ℕ = c.sub-s.result in
+    let f : (a ≤ h → h < b → s ≤ h) = λ p q. omega arith in
+    let g : (h < a → b ≤ h → h < s) = λ p q. omega arith in
+    c.exact.ensures ∙ search differences

@@ -4,7 +4,7 @@ use borrow.Author.Rules.{rules}
 use Rattle.hexadecimal.proofs.number.Goals as goal
 
 pub loop-i-init : goal.loop-i-init
-loop-i-init c = (search rules, (search no_number, search rules))
+loop-i-init c = (search no_number, search rules)
 
 pub overflow_mul-x : goal.overflow_mul-x
 overflow_mul-x c = search times-fits
@@ -13,7 +13,7 @@ pub overflow_add-x : goal.overflow_add-x
 overflow_add-x c = search more-fits
 
 pub loop-i-preserved : goal.loop-i-preserved
-loop-i-preserved c = (search rules, (search number_more, search more_lt))
+loop-i-preserved c = (search number_more, search more_lt)
 
 pub returns : goal.returns
 returns c = (search (reached number_at), search all-lt)

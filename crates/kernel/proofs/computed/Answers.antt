@@ -1,33 +1,31 @@
 use native.Mathlib.Omega.{arith}
 use mathlib.Core.Path.{refl}
 use Rattle.execute.specs.Step.{declined}
-use Rattle.kernel.proofs.NumberLaws.{vd-start, vs2-start, vs1-start, placed, is-attempted}
+use Rattle.kernel.proofs.PlanLaws.{vd-start, vs2-start, vs1-start, placed, is-attempted}
 use Rattle.kernel.proofs.computed.Goals as goal
 
-pub returns-then-not-e-number : goal.returns-then-not-e-number
-returns-then-not-e-number c = λ rights memory x d. declined
+pub returns-then-e-end : goal.returns-then-e-end
+returns-then-e-end c = λ rights memory x d. declined
 
 pub overflow_mul-s : goal.overflow_mul-s
-overflow_mul-s c = omega (arith, vd-start _ _ _ _ _ _ _ c.requires c.number_of-number.ensures c.if-not-e-number.false)
+overflow_mul-s c = omega (arith, vd-start _ _ _ _ _ _ c.requires c.if-e-end.false)
 
-pub overflow_mul-s-2 : goal.overflow_mul-s-2
-overflow_mul-s-2 c = omega (
-  arith,
-  vs2-start _ _ _ _ _ _ _ c.requires c.number_of-number.ensures c.if-not-e-number.false _
-      c.operand_of-first.ensures,
-)
+pub start_of-requires : goal.start_of-requires
+start_of-requires c = omega (arith, vs2-start _ _ _ _ _ _ c.requires c.if-e-end.false)
 
-pub overflow_mul-s-3 : goal.overflow_mul-s-3
-overflow_mul-s-3 c = omega (
-  arith,
-  vs1-start _ _ _ _ _ _ _ c.requires c.number_of-number.ensures c.if-not-e-number.false _
-      c.operand_of-second.ensures,
-)
+pub source_of-requires : goal.source_of-requires
+source_of-requires c = omega (arith, vs1-start _ _ _ _ _ _ c.requires c.if-e-end.false)
+
+pub returns-in_default : goal.returns-in_default
+returns-in_default c = λ rights memory x d. declined
 
 pub by_operation-requires : goal.by_operation-requires
-by_operation-requires c = placed _ _ _ _ _ _ _ c.requires c.number_of-number.ensures c.if-not-e-number.false _ _
-    c.operand_of-first.ensures c.operand_of-second.ensures
+by_operation-requires c =
+    let is-operation = c.kernel_of.ensures c.in-Some.o c.in-Some.is in
+    rw (c.start_of.ensures, c.source_of.ensures) (placed _ _ _ _ _ _ c.requires c.if-e-end.false _ is-operation)
 
 pub returns : goal.returns
-returns c = is-attempted _ _ _ _ _ _ _ c.requires c.number_of-number.ensures c.if-not-e-number.false _ _
-    c.operand_of-first.ensures c.operand_of-second.ensures _ _ _ refl c.by_operation.ensures
+returns c =
+    let is-operation = c.kernel_of.ensures c.in-Some.o c.in-Some.is in
+    is-attempted _ _ _ _ _ _ c.requires c.if-e-end.false _ is-operation c.args.board _ _ refl
+    (rw (c.start_of.ensures, c.source_of.ensures) at c.by_operation.ensures)

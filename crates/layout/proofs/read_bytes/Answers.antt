@@ -1,9 +1,6 @@
-use Rattle.layout.proofs.WidthLaws.{last-size, last-room}
+use Rattle.layout.proofs.WidthLaws.{last-size}
 use Rattle.layout.proofs.BytesLaws.{read-sized, lt-sized}
 use Rattle.layout.proofs.read_bytes.Goals as goal
-
-pub read8-requires : goal.read8-requires
-read8-requires c = search last-room
 
 pub returns-in-1 : goal.returns-in-1
 returns-in-1 c = search (read-sized, lt-sized)

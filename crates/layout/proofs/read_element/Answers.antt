@@ -2,7 +2,7 @@ use native.Mathlib.Omega.{arith}
 use Rattle.layout.specs.Layout.{element_at}
 use Rattle.layout.proofs.WidthLaws.{bytes-size}
 use Rattle.layout.proofs.BytesLaws.{read-sized, lt-sized}
-use Rattle.layout.proofs.ElementLaws.{begins, one_byte, byte-room, mask-room, bytes-room, as-mask, as-several, lt-mask, lt-several}
+use Rattle.layout.proofs.ElementLaws.{begins, one_byte, mask-room, bytes-room, as-mask, as-several, lt-mask, lt-several}
 use Rattle.layout.proofs.read_element.Goals as goal
 
 pub overflow_mul-at : goal.overflow_mul-at
@@ -16,10 +16,6 @@ overflow_mul-at-2 c = omega (arith, begins c.requires)
 pub overflow_add-at : goal.overflow_add-at
 unfolding element_at
 overflow_add-at c = omega (arith, begins c.requires)
-
-pub read1-requires : goal.read1-requires
-unfolding element_at
-read1-requires c = search byte-room
 
 pub returns-then-n-eq1 : goal.returns-then-n-eq1
 unfolding element_at

@@ -1,9 +1,6 @@
-use Rattle.layout.proofs.WidthLaws.{last-size, last-room}
+use Rattle.layout.proofs.WidthLaws.{last-size}
 use Rattle.layout.proofs.BytesLaws.{write-sized}
 use Rattle.layout.proofs.write_bytes.Goals as goal
-
-pub write8-requires : goal.write8-requires
-write8-requires c = search last-room
 
 pub returns-in-1 : goal.returns-in-1
 returns-in-1 c = search write-sized

@@ -2,7 +2,7 @@ use native.Mathlib.Omega.{arith}
 use Rattle.layout.specs.Layout.{with_element}
 use Rattle.layout.proofs.WidthLaws.{bytes-size}
 use Rattle.layout.proofs.BytesLaws.{write-sized}
-use Rattle.layout.proofs.ElementLaws.{begins, one_byte, byte-room, mask-room, bytes-room, as-mask, as-several}
+use Rattle.layout.proofs.ElementLaws.{begins, one_byte, mask-room, bytes-room, as-mask, as-several}
 use Rattle.layout.proofs.write_element.Goals as goal
 
 pub overflow_mul-at : goal.overflow_mul-at
@@ -16,10 +16,6 @@ overflow_mul-at-2 c = omega (arith, begins c.requires)
 pub overflow_add-at : goal.overflow_add-at
 unfolding with_element
 overflow_add-at c = omega (arith, begins c.requires)
-
-pub write1-requires : goal.write1-requires
-unfolding with_element
-write1-requires c = search byte-room
 
 pub returns-then-n-eq1 : goal.returns-then-n-eq1
 unfolding with_element

@@ -3,12 +3,11 @@ use Rattle.plan.specs.Range.{PlanFits}
 use Rattle.plan.proofs.OperandLaws.{variant_fits}
 use Rattle.legality.specs.Legal.{kind_legal}
 use Rattle.legality.proofs.LegalLaws.{kind-by}
-use borrow.Author.Rules.{rules}
 use Rattle.legality.proofs.kind_legal.Goals as goal
 
 pub one_turn_legal-requires : goal.one_turn_legal-requires
 unfolding kind_legal
-one_turn_legal-requires c = (search rules, search (variant_fits PlanFits P.OneTurn))
+one_turn_legal-requires c = search (variant_fits PlanFits P.OneTurn)
 
 pub elements_legal-requires : goal.elements_legal-requires
 unfolding kind_legal

@@ -1,8 +1,5 @@
 use Rattle.multiply.proofs.ProductLaws.{products}
 use Rattle.multiply.proofs.mulh.Goals as goal
 
-pub overflow_mul-x : goal.overflow_mul-x
-overflow_mul-x c = search products
-
 pub returns : goal.returns
 returns c = search products

@@ -1,17 +1,16 @@
 use Rattle.one_turn.proofs.ResultLaws.{setting-fits, mask-holds, mask-is-apart, reduction-holds, packing-holds, move-holds}
 use Rattle.one_turn.proofs.ResultLaws.{setting-left, mask-left, reduction-left, packing-left, move-left}
-use borrow.Author.Rules.{rules}
 use Rattle.one_turn.proofs.perform.Goals as goal
 use Rattle.one_turn.proofs.perform.Goals.{in-Mask, in-Reduction, in-Packing, in-ScalarMove}
 
 pub setting-requires : goal.setting-requires
-setting-requires c = (search rules, (search rules, search setting-fits))
+setting-requires c = search setting-fits
 
 pub returns-in-Setting : goal.returns-in-Setting
 returns-in-Setting c = search setting-left
 
 pub mask_turn-requires : goal.mask_turn-requires
-mask_turn-requires c = (search mask-holds, (search rules, search mask-is-apart))
+mask_turn-requires c = (search mask-holds, search mask-is-apart)
 
 pub reduce-requires : goal.reduce-requires
 reduce-requires c = search reduction-holds
@@ -21,24 +20,6 @@ pack-requires c = search packing-holds
 
 pub scalar_turn-requires : goal.scalar_turn-requires
 scalar_turn-requires c = search move-holds
-
-pub shape_of-registers : goal.shape_of-registers
-shape_of-registers c =
-    elim c.match-t.branch [
-      | in-Mask w ↦ rw w.registers-is (search rules)
-      | in-Reduction w ↦ rw w.registers-is (search rules)
-      | in-Packing w ↦ rw w.registers-is (search rules)
-      | in-ScalarMove w ↦ rw w.registers-is (search rules)
-    ]
-
-pub shape_of-scalars : goal.shape_of-scalars
-shape_of-scalars c =
-    elim c.match-t.branch [
-      | in-Mask w ↦ rw w.scalars-is (search rules)
-      | in-Reduction w ↦ rw w.scalars-is
-      | in-Packing w ↦ rw w.scalars-is
-      | in-ScalarMove w ↦ rw w.scalars-is (search rules)
-    ]
 
 pub returns : goal.returns
 returns c =

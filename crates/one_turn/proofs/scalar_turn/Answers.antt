@@ -1,16 +1,7 @@
 use Rattle.machine.specs.OneTurn.{scalar_move_result}
 use Rattle.one_turn.proofs.ResultLaws.{registers-left}
 use Rattle.one_turn.proofs.MoveLaws.{move-by, scalars-left}
-use borrow.Author.Rules.{rules}
 use Rattle.one_turn.proofs.scalar_turn.Goals as goal
-
-pub to_scalar-requires : goal.to_scalar-requires
-unfolding scalar_move_result
-to_scalar-requires c = search rules
-
-pub to_vector-requires : goal.to_vector-requires
-unfolding scalar_move_result
-to_vector-requires c = search rules
 
 pub returns-in-VmvXS : goal.returns-in-VmvXS
 unfolding scalar_move_result

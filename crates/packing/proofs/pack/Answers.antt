@@ -1,4 +1,3 @@
-use native.Mathlib.Omega.{arith}
 use Rattle.packing.proofs.PackLaws.{walked_none, walked_more, walked_all, reachable-here}
 use Rattle.packing.proofs.pack.Goals as goal
 
@@ -7,12 +6,6 @@ loop-i-init c = walked_none _ _ _ _
 
 pub step-n-requires : goal.step-n-requires
 step-n-requires c = search reachable-here
-
-pub overflow_add-i : goal.overflow_add-i
-overflow_add-i c = omega arith
-
-pub loop-i-smaller : goal.loop-i-smaller
-loop-i-smaller c = omega arith
 
 pub loop-i-preserved : goal.loop-i-preserved
 loop-i-preserved c = search walked_more

@@ -24,21 +24,4 @@ unfolding read_at
 returns-in-Bit c = search (between read_at)
 
 pub returns-in-Eighth : goal.returns-in-Eighth
-unfolding read_at
 returns-in-Eighth c = search in_group
-
-pub returns-in-Quarter : goal.returns-in-Quarter
-unfolding read_at
-returns-in-Quarter c = search in_group
-
-pub returns-in-Half : goal.returns-in-Half
-unfolding read_at
-returns-in-Half c = search in_group
-
-pub returns-in-Single : goal.returns-in-Single
-unfolding read_at
-returns-in-Single c = search in_group
-
-pub returns-in-Double : goal.returns-in-Double
-unfolding read_at
-returns-in-Double c = search in_group

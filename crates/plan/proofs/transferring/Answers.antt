@@ -1,3 +1,4 @@
+use Rattle.control.proofs.Laws.{valid}
 use Rattle.decode.specs.declared.Mode.TheVariants as M
 use Rattle.decode.specs.Fields.{ModeFits}
 use Rattle.plan.proofs.OperandLaws.{variant_fits, sew-small}
@@ -26,7 +27,7 @@ pub groups_at-requires-in-Indexed-2 : goal.groups_at-requires-in-Indexed-2
 groups_at-requires-in-Indexed-2 c = search group-eew
 
 pub overflow_mul-end-in-Whole : goal.overflow_mul-end-in-Whole
-overflow_mul-end-in-Whole c = search whole-bits
+overflow_mul-end-in-Whole c = search (whole-bits, valid)
 
 pub nonzero_div-end : goal.nonzero_div-end
 nonzero_div-end c = search access-some

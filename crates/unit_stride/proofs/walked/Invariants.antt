@@ -1,4 +1,3 @@
-use Prim.Native.Nat.{◌-◌}
 use mathlib.Core.Bool.{true}
 use Rattle.machine.specs.Effect.{active_of}
 use Rattle.unit_stride.proofs.MaskedLaws.{Walking}
@@ -6,6 +5,3 @@ use Rattle.unit_stride.proofs.walked.Given as goal
 
 abbrev pub invariant-loop-k : goal.invariant-loop-k
 invariant-loop-k l = Walking (active_of l.vlenb l.registers true) l.rights l.memory l.t l.vstart l.remaining l.k l.tally
-
-abbrev pub decreases-loop-k : goal.decreases-loop-k
-decreases-loop-k l = l.remaining - l.k

@@ -1,5 +1,9 @@
-use Rattle.view.proofs.ViewLaws.{part_by, number_by, point-by}
+use native.Mathlib.Omega.{arith}
+use Rattle.view.proofs.ViewLaws.{ends-within}
 use Rattle.view.proofs.view_with.Goals as goal
 
-pub returns : goal.returns
-returns c = (search part_by, (search number_by, search point-by))
+pub overflow_add-result : goal.overflow_add-result
+overflow_add-result c = omega (arith, ends-within _ _ _ _ _ c.in-Ok.ensures)
+
+pub slice_bounds-result-end : goal.slice_bounds-result-end
+slice_bounds-result-end c = omega (arith, ends-within _ _ _ _ _ c.in-Ok.ensures)

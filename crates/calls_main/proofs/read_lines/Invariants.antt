@@ -1,8 +1,0 @@
-use Prim.Native.Nat.{◌-◌, ◌≤◌}
-use Rattle.calls_main.proofs.read_lines.Given as goal
-
-abbrev pub invariant-loop : goal.invariant-loop
-invariant-loop l = l.counter ≤ 1000000
-
-abbrev pub decreases-loop : goal.decreases-loop
-decreases-loop l = 1000000 - l.counter

@@ -1,6 +1,0 @@
-use Rattle.capi.proofs.Shown.{read_number, read-value}
-use borrow.Author.Rules.{rules}
-use Rattle.capi.proofs.prashunde_csr_read.Goals as goal
-
-pub returns : goal.returns
-returns c = record { value = search read_number; value_after = search read-value; control_value = search rules }

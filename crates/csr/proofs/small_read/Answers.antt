@@ -1,5 +1,0 @@
-use Rattle.csr.proofs.Instances.{read_by}
-use Rattle.csr.proofs.small_read.Goals as goal
-
-pub returns : goal.returns
-returns c = search read_by

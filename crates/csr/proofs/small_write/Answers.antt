@@ -1,5 +1,0 @@
-use Rattle.csr.proofs.Instances.{written-by}
-use Rattle.csr.proofs.small_write.Goals as goal
-
-pub returns : goal.returns
-returns c = search written-by

@@ -1,5 +1,0 @@
-use Rattle.multiply.proofs.MultiplyAddLaws.{sub_is}
-use Rattle.multiply.proofs.nmsac.Goals as goal
-
-pub returns : goal.returns
-returns c = search sub_is

@@ -1,6 +1,0 @@
-use Rattle.text.proofs.TextLaws.{both}
-use borrow.Author.Rules.{rules}
-use Rattle.sheet.proofs.print_final.Goals as goal
-
-pub returns : goal.returns
-returns c = (search both, search rules)

@@ -1,5 +1,0 @@
-use Rattle.turn.proofs.Turns.{turned_by}
-use Rattle.turn.proofs.small_turn.Goals as goal
-
-pub returns : goal.returns
-returns c = search turned_by

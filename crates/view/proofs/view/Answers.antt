@@ -1,5 +1,0 @@
-use Rattle.view.proofs.ViewLaws.{part_by, point-by}
-use Rattle.view.proofs.view.Goals as goal
-
-pub returns : goal.returns
-returns c = (search part_by, search point-by)
