@@ -12,7 +12,7 @@ use Rattle.answer.specs.declared.Answer.{Answer}
 use Rattle.answer.specs.declared.Answer.TheVariants.{Finished, Paused, Illegal}
 use Rattle.control.specs.declared.Board.{Board}
 use Rattle.control.specs.Board.{Valid, base, small}
-use Rattle.control.proofs.Laws.{valid, Possible, possible-apart}
+use Rattle.control.proofs.Laws.{base-valid, small-valid, Possible, possible-apart}
 use Rattle.decode.specs.Word.{decode_of}
 use Rattle.decode.proofs.Fields.{fits}
 use Rattle.access.specs.declared.FaultPlace.{FaultPlace}
@@ -163,7 +163,7 @@ module _ (b : Board) (w : Valid b) (word : ℕ) (s : State) where
       at-plan (P.OneTurn t) q v = absurd v
       at-plan (P.Elements e) q v =
           let legal : rejection (P.Elements e) ≡ none = subst (λ (p : Plan). rejection p ≡ none) q h in
-          let runs : Runnable b s e = record { word = decode_of word; fits = fits word; plan = q; is-legal = legal } in
+          let runs : Runnable b s e = record { valid = w; word = decode_of word; fits = fits word; plan = q; is-legal = legal } in
           let t : Transfer = v.transfer in
           let packed = is-packed b s.registers s.scalars s.memory s.rights s.control e runs (decode_of word) (fits word) q u t
           v.stepping.action in
@@ -201,8 +201,8 @@ foretold-on b w = record {
 
 -- the board of document 01, whose check `access_check::check` promises
 pub foretold : Foretold base
-foretold = foretold-on base (valid base)
+foretold = foretold-on base base-valid
 
 -- the smaller board, whose check `access_check::check` promises at it
 pub small-foretold : Foretold small
-small-foretold = foretold-on small (valid small)
+small-foretold = foretold-on small small-valid

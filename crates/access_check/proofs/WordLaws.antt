@@ -17,7 +17,7 @@ use Rattle.control.specs.declared.Board.{Board}
 use Rattle.control.specs.declared.Control.{Control}
 use Rattle.control.specs.Board.{Valid}
 use Rattle.control.specs.Vtype.{vlmax_of}
-use Rattle.control.proofs.Laws.{Possible, possible-apart, valid}
+use Rattle.control.proofs.Laws.{Possible, possible-apart}
 use Rattle.decode.specs.declared.Access.{Access}
 use Rattle.decode.specs.declared.Mode.{Mode}
 use Rattle.decode.specs.declared.Mode.TheVariants as M
@@ -174,20 +174,20 @@ module _ (b : Board) (file x memory rights : List ℕ) (c : Control) (e : Elemen
   possible = possible-apart b c (the_facts b e file x memory rights c 0 l).acceptable.possible
 
   unit-plan : UnitPlan b e
-  unit-plan = subst (PlanUnit b) p (plan-unit b x c (valid b) possible d f u)
+  unit-plan = subst (PlanUnit b) p (plan-unit b x c l.valid possible d f u)
 
   few-elements : e.end ≤ 128
-  few-elements = omega (arith, (the-sound b e file x memory rights c 0 l).end, (valid b).most)
+  few-elements = omega (arith, (the-sound b e file x memory rights c 0 l).end, l.valid.most)
 
   early : c.vstart < 128
-  early = omega (arith, possible.vstart, (valid b).most)
+  early = omega (arith, possible.vstart, l.valid.most)
 
   few_bytes : (e.end - c.vstart) * unit-plan.transfer.bytes ≤ 128
   few_bytes =
       let n : ℕ = unit-plan.transfer.bytes in
       let rest : (e.end - c.vstart) * n ≤ e.end * n = mul-le-mul_right n (omega arith) in
       let fit = elements-fit b c e (elements-of-legal b c e (the_facts b e file x memory rights c 0 l).legal) in
-      omega (arith, rest, unit-plan.short fit, (valid b).most)
+      omega (arith, rest, unit-plan.short fit, l.valid.most)
 
   pub is-packed : (t : Transfer) → e.action ≡ A.Transfer t → Packed (length memory) t c.vstart (e.end - c.vstart)
   is-packed t q =
@@ -243,14 +243,14 @@ module _ (b : Board) (word : ℕ) (file x memory rights : List ℕ) (c : Control
           (subst (λ (y : Instruction). legal_of b c (plan_of b x c y) ≡ false) k (illegal-checked b c (plan_of b x c d) (sym w ∙ f)))
 
       -- a unit-stride access does not take one turn
-      pub no-one-turn : (r : Checked) (t : OneTurn) → Fits d → p ≡ P.OneTurn t → r ≡ access_check_of b word before
-      no-one-turn r t f e =
+      pub no-one-turn : (r : Checked) (t : OneTurn) → Valid b → Fits d → p ≡ P.OneTurn t → r ≡ access_check_of b word before
+      no-one-turn r t g f e =
           let possible = accepted-possible b (length file) (length x) (length memory) rights c v q h in
-          absurd (subst (PlanUnit b) (one-turn-planned b x c d p w t e).0 (plan-unit b x c (valid b) possible d f is-unit))
+          absurd (subst (PlanUnit b) (one-turn-planned b x c d p w t e).0 (plan-unit b x c g possible d f is-unit))
 
-      module _ (e : Elementwise) (f : p ≡ P.Elements e) where
+      module _ (e : Elementwise) (g : Valid b) (f : p ≡ P.Elements e) where
         runs : Runnable b before e
-        runs = elements-runnable b word file x memory rights c v d p q h k w e f
+        runs = elements-runnable b word file x memory rights c v d p q h k w e g f
 
         planned : plan_of b x c d ≡ P.Elements e
         planned = (elements-planned b x c d p w e f).0

@@ -12,7 +12,7 @@ ghost use Rattle.access_check.specs.AccessCheck.{unit_stride_mode, is_unit_strid
 
 use access::Wanted;
 use answer::Answer;
-use control::{Board, Control};
+use control::{Board, Control, Hart};
 use decode::{Instruction, Mode};
 use plan::{Action, Elementwise, Plan};
 use unit_stride::Checked;
@@ -93,7 +93,7 @@ fn elements(
 
 // What an uncut turn of the word would answer on a board, where it is a unit-stride access: refusals 32 to 36, then 2, then the elements.
 pub fn check(
-    board: Board,
+    hart: Hart,
     word: u32,
     registers: &[u8],
     scalars: &[u64],
@@ -101,11 +101,11 @@ pub fn check(
     rights: &[u8],
     control: Control,
 ) -> Checked
-    ensures { result ≡ access_check_of board word
+    ensures { result ≡ access_check_of hart.board word
         (given registers.now scalars.now memory.now rights.now control) }
 {
     let refused = refusal::refusal(
-        board,
+        hart,
         registers.len(),
         scalars.len(),
         memory.len(),
@@ -126,9 +126,9 @@ pub fn check(
     let Ok(rights) = <&[u8; 256]>::try_from(rights) else {
         unreachable!()
     };
-    match legality::checked(board, scalars, control, instruction) {
+    match legality::checked(hart, scalars, control, instruction) {
         Plan::Illegal => nothing_tested(Answer::Illegal),
         Plan::OneTurn(_) => nothing_tested(Answer::Illegal),
-        Plan::Elements(e) => elements(board, registers, rights, memory.len(), control.vstart, e),
+        Plan::Elements(e) => elements(hart.board, registers, rights, memory.len(), control.vstart, e),
     }
 }

@@ -7,7 +7,7 @@
 #![tactic(auto)]
 
 use answer::Answer;
-use control::{Board, Control};
+use control::{Control, Hart};
 use std::array;
 use std::io::{self, BufReader, BufWriter, Write};
 use view::ViewPlace;
@@ -31,9 +31,9 @@ fn print_written(output: &mut impl Write, answer: Answer, control: Control) -> i
 }
 
 // The value of a read is 0 beside a refusal.
-fn read(output: &mut impl Write, board: Board, line: &[u8]) -> io::Result<()> {
+fn read(output: &mut impl Write, hart: Hart, line: &[u8]) -> io::Result<()> {
     let csr = hexadecimal::number(line, 1, 16);
-    let (answer, value) = match csr::read(board, control_of(line), csr) {
+    let (answer, value) = match csr::read(hart, control_of(line), csr) {
         Ok(value) => (Answer::Finished, value),
         Err(refused) => (refused, 0),
     };
@@ -41,17 +41,17 @@ fn read(output: &mut impl Write, board: Board, line: &[u8]) -> io::Result<()> {
 }
 
 // The record of a write is as before beside a refusal.
-fn write(output: &mut impl Write, board: Board, line: &[u8]) -> io::Result<()> {
+fn write(output: &mut impl Write, hart: Hart, line: &[u8]) -> io::Result<()> {
     let control = control_of(line);
     let csr = hexadecimal::number(line, 1, 16);
     let value = hexadecimal::number(line, 17, 16);
     let mut lent = control;
-    let answer = match csr_field::write(board, &mut lent, csr, value) {
+    let answer = match csr_field::write(hart, &mut lent, csr, value) {
         Ok(()) => Answer::Finished,
         Err(refused) => refused,
     };
     print_written(output, answer, lent)?;
-    let (answer, after) = match csr::write(board, control, csr, value) {
+    let (answer, after) = match csr::write(hart, control, csr, value) {
         Ok(after) => (Answer::Finished, after),
         Err(refused) => (refused, control),
     };
@@ -77,40 +77,40 @@ fn checksum(part: &[u8]) -> u64 {
 
 fn view_with(
     output: &mut impl Write,
-    board: Board,
+    hart: Hart,
     file: &[u8],
     first: usize,
     count: usize,
 ) -> io::Result<()> {
     let mut answer = Answer::Finished;
-    let part = view::view_with(board, file, first, count, &mut answer);
+    let part = view::view_with(hart, file, first, count, &mut answer);
     let (answer, start, size) = (u64::from(answer), start_of(part), part.len());
     writeln!(output, "{answer} {start} {size} {}", checksum(part))
 }
 
 fn view(
     output: &mut impl Write,
-    board: Board,
+    hart: Hart,
     file: &[u8],
     first: usize,
     count: usize,
 ) -> io::Result<()> {
-    let (answer, start, size) = match view::place(board, file.len(), first, count) {
+    let (answer, start, size) = match view::place(hart, file.len(), first, count) {
         Ok(ViewPlace { start, size }) => (Answer::Finished, start, size),
         Err(refused) => (refused, 0, 0),
     };
-    let part = view::view(board, file, first, count);
+    let part = view::view(hart, file, first, count);
     let answer = u64::from(answer);
     writeln!(output, "{answer} {start} {size} {}", checksum(part))
 }
 
 // The views of a file of the length in a line, at most the room that there is.
-fn views(output: &mut impl Write, board: Board, line: &[u8], file: &[u8]) -> io::Result<()> {
+fn views(output: &mut impl Write, hart: Hart, line: &[u8], file: &[u8]) -> io::Result<()> {
     let n = file.len().min(hexadecimal::number(line, 1, 16) as usize);
     let first = hexadecimal::number(line, 17, 16) as usize;
     let count = hexadecimal::number(line, 33, 16) as usize;
-    view_with(output, board, &file[..n], first, count)?;
-    view(output, board, &file[..n], first, count)
+    view_with(output, hart, &file[..n], first, count)?;
+    view(output, hart, &file[..n], first, count)
 }
 
 // ---- the whole
@@ -125,12 +125,12 @@ fn main(rt: HostRuntime) -> io::Result<()> {
             break;
         };
         match line[0] {
-            b'r' => read(&mut output, Board::BASE, &line)?,
-            b'w' => write(&mut output, Board::BASE, &line)?,
-            b'v' => views(&mut output, Board::BASE, &line, &file)?,
-            b'R' => read(&mut output, Board::SMALL, &line)?,
-            b'W' => write(&mut output, Board::SMALL, &line)?,
-            b'V' => views(&mut output, Board::SMALL, &line, &file)?,
+            b'r' => read(&mut output, Hart::BASE, &line)?,
+            b'w' => write(&mut output, Hart::BASE, &line)?,
+            b'v' => views(&mut output, Hart::BASE, &line, &file)?,
+            b'R' => read(&mut output, Hart::SMALL, &line)?,
+            b'W' => write(&mut output, Hart::SMALL, &line)?,
+            b'V' => views(&mut output, Hart::SMALL, &line, &file)?,
             _ => break,
         }
         // what is said of this line stands in the output before the next is read

@@ -16,15 +16,15 @@ ghost use Rattle.sheet.specs.Run.{printed, buffered};
 ghost use Rattle.sheet.specs.Bounds.{sheet_bound};
 ghost use Rattle.crossing.specs.Crossing.{Shows, Tells};
 
-use control::{Board, Control};
+use control::{Control, Hart};
 
 pub mod small;
 
 // The first board.
-fn board() -> Board
-    ensures { result ≡ base }
+fn hart() -> Hart
+    ensures { result.board ≡ base }
 {
-    Board::BASE
+    Hart::BASE
 }
 
 // One turn of a word: the answer's number, and in the lent parts what the turn leaves.
@@ -50,7 +50,7 @@ pub extern "C" fn prashunde_turn(
         scalars.new memory.new rights.now control.new }
 {
     let turned = turn::turn(
-        board(),
+        hart(),
         word,
         allowance,
         registers,
@@ -88,7 +88,7 @@ pub extern "C" fn prashunde_access_check(
         × ((rights.exit.now ≡ rights.entry.now) × (control.exit.now ≡ control.entry.now)))) }
 {
     let checked = access_check::check(
-        board(),
+        hart(),
         word,
         registers,
         scalars,
@@ -106,7 +106,7 @@ pub extern "C" fn prashunde_csr_read(csr: u64, control: &[u64; 6], value: &mut u
     ensures value_after { value.new ≡ value_of (read_of base (record_of control.now) csr) }
     ensures control_value { control.exit.now ≡ control.entry.now }
 {
-    crossing::read(csr::read(board(), Control::from(*control), csr), value)
+    crossing::read(csr::read(hart(), Control::from(*control), csr), value)
 }
 
 // The record after a write, through the write on a lent record; the same record beside any other answer than 0.
@@ -117,7 +117,7 @@ pub extern "C" fn prashunde_csr_write(csr: u64, value: u64, control: &mut [u64; 
         ≡ fields_of (record_after (record_of control.old) (written_of base (record_of control.old) csr value)) }
 {
     let mut record = Control::from(*control);
-    let outcome = csr_field::write(board(), &mut record, csr, value);
+    let outcome = csr_field::write(hart(), &mut record, csr, value);
     crossing::written(outcome, record, control)
 }
 
@@ -135,7 +135,7 @@ pub extern "C" fn prashunde_view(
     ensures size_after { size.new ≡ size_of (place_of base (length registers.now) first count) }
 {
     crossing::placed(
-        view::place(board(), registers.len(), first, count),
+        view::place(hart(), registers.len(), first, count),
         start,
         size,
     )

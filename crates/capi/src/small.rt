@@ -11,12 +11,12 @@ ghost use Rattle.machine.specs.Call.{given};
 ghost use Rattle.access_check.specs.AccessCheck.{access_check_of};
 ghost use Rattle.crossing.specs.Crossing.{Shows, Tells};
 
-use control::{Board, Control};
+use control::{Control, Hart};
 
-fn board() -> Board
-    ensures { result ≡ small }
+fn hart() -> Hart
+    ensures { result.board ≡ small }
 {
-    Board::SMALL
+    Hart::SMALL
 }
 
 #[unsafe(no_mangle)]
@@ -41,7 +41,7 @@ pub extern "C" fn prashunde_small_turn(
         scalars.new memory.new rights.now control.new }
 {
     let turned = turn::turn(
-        board(),
+        hart(),
         word,
         allowance,
         registers,
@@ -77,7 +77,7 @@ pub extern "C" fn prashunde_small_access_check(
         × ((rights.exit.now ≡ rights.entry.now) × (control.exit.now ≡ control.entry.now)))) }
 {
     let checked = access_check::check(
-        board(),
+        hart(),
         word,
         registers,
         scalars,
@@ -94,7 +94,7 @@ pub extern "C" fn prashunde_small_csr_read(csr: u64, control: &[u64; 6], value: 
     ensures value_after { value.new ≡ value_of (read_of small (record_of control.now) csr) }
     ensures control_value { control.exit.now ≡ control.entry.now }
 {
-    crossing::read(csr::read(board(), Control::from(*control), csr), value)
+    crossing::read(csr::read(hart(), Control::from(*control), csr), value)
 }
 
 #[unsafe(no_mangle)]
@@ -104,7 +104,7 @@ pub extern "C" fn prashunde_small_csr_write(csr: u64, value: u64, control: &mut 
         ≡ fields_of (record_after (record_of control.old) (written_of small (record_of control.old) csr value)) }
 {
     let mut record = Control::from(*control);
-    let outcome = csr_field::write(board(), &mut record, csr, value);
+    let outcome = csr_field::write(hart(), &mut record, csr, value);
     crossing::written(outcome, record, control)
 }
 
@@ -121,7 +121,7 @@ pub extern "C" fn prashunde_small_view(
     ensures size_after { size.new ≡ size_of (place_of small (length registers.now) first count) }
 {
     crossing::placed(
-        view::place(board(), registers.len(), first, count),
+        view::place(hart(), registers.len(), first, count),
         start,
         size,
     )

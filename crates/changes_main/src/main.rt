@@ -12,7 +12,7 @@
 use access::FaultPlace;
 use answer::Answer;
 use case_lines::next_bytes;
-use control::{Board, Control};
+use control::{Control, Hart};
 use machine::Turned;
 use std::io::{self, BufReader, BufWriter, Read, Write};
 
@@ -35,7 +35,7 @@ const LINES: usize = 1_000_000;
 // A line, by its letter: what follows it, with the newline.
 #[derive(Clone, Copy)]
 enum Line {
-    Case(Board, [u8; 105]),
+    Case(Hart, [u8; 105]),
     Registers([u8; 40]),
     Memory([u8; 40]),
     Scalar([u8; 19]),
@@ -50,8 +50,8 @@ enum Line {
 fn next_line(input: &mut impl Read) -> Option<Line> {
     let [letter]: [u8; 1] = next_bytes(input)?;
     let line = match letter {
-        b'c' => Line::Case(Board::BASE, next_bytes(input)?),
-        b's' => Line::Case(Board::SMALL, next_bytes(input)?),
+        b'c' => Line::Case(Hart::BASE, next_bytes(input)?),
+        b's' => Line::Case(Hart::SMALL, next_bytes(input)?),
         b'v' => Line::Registers(next_bytes(input)?),
         b'm' => Line::Memory(next_bytes(input)?),
         b'x' => Line::Scalar(next_bytes(input)?),
@@ -142,9 +142,9 @@ impl Machine {
     }
 
     // A turn on a board.
-    fn turn(&mut self, board: Board, word: u32, allowance: u32) {
+    fn turn(&mut self, hart: Hart, word: u32, allowance: u32) {
         let turned = turned(
-            board,
+            hart,
             word,
             allowance,
             &mut self.registers,
@@ -167,7 +167,7 @@ impl Machine {
 
 // A turn on a board; the smaller one has the first half of the file.
 fn turned(
-    board: Board,
+    hart: Hart,
     word: u32,
     allowance: u32,
     registers: &mut [u8; REGISTERS],
@@ -176,9 +176,9 @@ fn turned(
     rights: &[u8],
     control: Control,
 ) -> Turned {
-    let bytes = 32 * board.vlenb as usize;
+    let bytes = 32 * hart.board.vlenb as usize;
     turn::turn(
-        board,
+        hart,
         word,
         allowance,
         &mut registers[..bytes],
@@ -201,16 +201,16 @@ fn sum_of<T: Copy + Into<u64>>(sum: u64, numbers: &[T]) -> u64 {
 // A case as far as its lines have come: its board and word, the machine that takes the turns, and the one that takes the uncut turn.
 #[derive(Drop)]
 struct Case {
-    board: Board,
+    hart: Hart,
     word: u32,
     cut: Machine,
     whole: Machine,
 }
 
 impl Case {
-    fn new(board: Board, word: u32, control: Control) -> Case {
+    fn new(hart: Hart, word: u32, control: Control) -> Case {
         Case {
-            board,
+            hart,
             word,
             cut: Machine::new(control),
             whole: Machine::new(control),
@@ -220,9 +220,9 @@ impl Case {
     // What a line asks for.
     fn follow(&mut self, line: Line, output: &mut impl Write) -> io::Result<()> {
         match line {
-            Line::Case(board, line) => {
+            Line::Case(hart, line) => {
                 let word = hexadecimal::number(&line, 0, 8) as u32;
-                *self = Case::new(board, word, case_lines::control_at(&line, 8));
+                *self = Case::new(hart, word, case_lines::control_at(&line, 8));
             }
             Line::Registers(line) => {
                 set_bytes(&mut self.cut.registers, &line);
@@ -240,9 +240,9 @@ impl Case {
             Line::UncutRights(line) => self.whole.set_rights(&line),
             Line::Turn(line) => {
                 let allowance = hexadecimal::number(&line, 0, 8) as u32;
-                self.cut.turn(self.board, self.word, allowance);
+                self.cut.turn(self.hart, self.word, allowance);
             }
-            Line::UncutTurn => self.whole.turn(self.board, self.word, UNCUT),
+            Line::UncutTurn => self.whole.turn(self.hart, self.word, UNCUT),
             Line::End => return self.print(output),
         }
         Ok(())
@@ -268,7 +268,7 @@ fn main(rt: HostRuntime) -> io::Result<()> {
     let alloc = rt.alloc();
     let mut input = BufReader::new(alloc, rt.reader())?;
     let mut output = BufWriter::new(alloc, io::writer(&rt))?;
-    let mut case = Case::new(Board::BASE, 0, Control::RESET);
+    let mut case = Case::new(Hart::BASE, 0, Control::RESET);
     for _ in 0..LINES {
         let Some(line) = next_line(&mut input) else {
             break;

@@ -7,16 +7,24 @@ use mathlib.Core.Bool.{Bool, true, false, ◌&&◌, cond}
 use native.Mathlib.Nat.{le_of_suc-le-suc, not-suc-le-zero, mul-le-mul, mul-le-mul_right, div-le_of_le-mul, mod-lt}
 use native.Mathlib.Omega.{arith}
 use borrow.Author.Tests.{leb-true, eqb-true, lt-ltb, le-ltb}
-use lib.Dec.{leb, ltb, eqb, lit<}
+use lib.Dec.{leb, ltb, eqb, lit<, lit≤}
 use lib.ListN.{length, get_or}
 use mir.Syntax.{w64}
 use mir.Val.{Fits}
 use Rattle.laws.proofs.Apart.{both_left, both_right, apart}
 use Rattle.control.specs.declared.Board.{Board}
 use Rattle.control.specs.declared.Control.{Control}
-use Rattle.control.specs.Board.{Valid}
+use Rattle.control.specs.declared.Hart.{Hart}
+use Rattle.control.specs.Board.{Valid, base, small}
 use Rattle.control.specs.Vtype.{vill, lmul8_of, sew_of, vlmax_of, supported_of}
 use Rattle.control.specs.Control.{typed_well_of, possible_of}
+
+-- ---- the boards that there are
+pub base-valid : Valid base
+base-valid = record { lenb = 4; power = refl; some = lit≤ tt; most = lit≤ tt; elen = lit≤ tt; within = lit≤ tt }
+
+pub small-valid : Valid small
+small-valid = record { lenb = 3; power = refl; some = lit≤ tt; most = lit≤ tt; elen = lit≤ tt; within = lit≤ tt }
 
 -- ---- tests taken apart
 cond-apart : (p q r : Bool) → cond p q r ≡ true → ((p ≡ true) × (q ≡ true)) ⊎ (r ≡ true)
@@ -65,7 +73,7 @@ lmul8-shifted : (v : ℕ) → cond (ltb (v % 8) 4) (8 * 2 ^ (v % 8) % 2 ^ 64) (1
 lmul8-shifted v =
     search (looked-up (λ k. cond (ltb k 4) (8 * 2 ^ k % 2 ^ 64) (1 * 2 ^ (k - 4) % 2 ^ 64 / 2)), mod-lt, lit<)
 
--- ---- every board is valid: a divisor of 16 is a power of 2
+-- ---- the board of a hart is valid: a divisor of 16 is a power of 2
 abbrev lenbs : List ℕ
 lenbs = 0 ∷ 0 ∷ 1 ∷ 0 ∷ 2 ∷ 0 ∷ 0 ∷ 0 ∷ 3 ∷ 0 ∷ 0 ∷ 0 ∷ 0 ∷ 0 ∷ 0 ∷ 0 ∷ 4 ∷ []
 
@@ -77,14 +85,14 @@ power-or-one v h =
 divides-power : (v : ℕ) → v ≤ 16 → 16 % v ≡ 0 → v ≡ 2 ^ get_or lenbs v 0
 divides-power v h e = let p = power-or-one v (omega arith) in rw e at p
 
-pub valid : (b : Board) → Valid b
-valid b = record {
-  lenb = get_or lenbs b.vlenb 0;
-  power = divides-power b.vlenb b.most b.divides;
-  some = b.some;
-  most = b.most;
-  elen = b.elen_most;
-  within = b.within;
+pub valid : (h : Hart) → Valid h.board
+valid h = record {
+  lenb = get_or lenbs h.board.vlenb 0;
+  power = divides-power h.board.vlenb h.most h.divides;
+  some = h.some;
+  most = h.most;
+  elen = h.elen_most;
+  within = h.within;
 }
 
 taken : (b : Bool) (x y z : ℕ) → b ≡ true → cond b x y ≡ z → x ≡ z

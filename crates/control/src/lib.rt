@@ -4,18 +4,12 @@
 
 ghost use Rattle.std.specs.Prelude.{◌≡◌, ◌≤◌, ◌%◌, ◌*◌, cond};
 
-// VLENB (the bytes of a vector register) and ELEN (the bits of the largest element). VLENB is a power of 2 and at most 16, ELEN at most 64
-// and at most VLEN. The two fit 8 bytes, so that a board is stored and loaded in one piece: stored in two and loaded in one it would delay
-// each call.
+// VLENB (the bytes of a vector register) and ELEN (the bits of the largest element). The two fit 8 bytes, so that a board is stored and
+// loaded in one piece: stored in two and loaded in one it would delay each call.
 #[derive(Clone, Copy, PartialEq, Eq)]
 pub struct Board {
     pub vlenb: u32,
     pub elen: u32,
-    pub ghost some: { 1 ≤ vlenb },
-    pub ghost most: { vlenb ≤ 16 },
-    pub ghost divides: { 16 % vlenb ≡ 0 },
-    pub ghost elen_most: { elen ≤ 64 },
-    pub ghost within: { elen ≤ 8 * vlenb },
 }
 
 impl Board {
@@ -27,6 +21,28 @@ impl Board {
 
     // VLEN 64, ELEN 32.
     pub const SMALL: Board = Board { vlenb: 8, elen: 32 };
+}
+
+// A hart on a board that can be (section 3: "each hart supporting a vector extension defines two parameters"): VLENB is a power of 2 and at
+// most 16, ELEN at most 64 and at most VLEN. It holds the board and nothing of the state.
+#[derive(Clone, Copy, PartialEq, Eq)]
+pub struct Hart {
+    pub board: Board,
+    pub ghost some: { 1 ≤ board.vlenb },
+    pub ghost most: { board.vlenb ≤ 16 },
+    pub ghost divides: { 16 % board.vlenb ≡ 0 },
+    pub ghost elen_most: { board.elen ≤ 64 },
+    pub ghost within: { board.elen ≤ 8 * board.vlenb },
+}
+
+impl Hart {
+    pub const BASE: Hart = Hart {
+        board: Board::BASE,
+    };
+
+    pub const SMALL: Hart = Hart {
+        board: Board::SMALL,
+    };
 }
 
 // The control record (document 01, 'The machine on the screen'), with the status field VS of mstatus (document 02, A8): 0 Off, 1 Initial,
@@ -132,17 +148,17 @@ impl Control {
     }
 
     // VLMAX = LMUL * VLEN / SEW.
-    pub fn vlmax(board: Board, vtype: u64) -> u64
-        ensures { result ≡ vlmax_of board vtype }
+    pub fn vlmax(hart: Hart, vtype: u64) -> u64
+        ensures { result ≡ vlmax_of hart.board vtype }
     {
-        Control::lmul8(vtype) * (board.vlenb as u64) / Control::sew(vtype)
+        Control::lmul8(vtype) * (hart.board.vlenb as u64) / Control::sew(vtype)
     }
 
     // Whether vtype is supported. `&` and `|` take both sides, as the definitions do: there is no branch.
-    pub fn supported(board: Board, vtype: u64) -> bool
-        ensures { result ≡ supported_of board vtype }
+    pub fn supported(hart: Hart, vtype: u64) -> bool
+        ensures { result ≡ supported_of hart.board vtype }
     {
-        let elen = board.elen as u64;
+        let elen = hart.board.elen as u64;
         let sew = Control::sew(vtype);
         let lmul8 = Control::lmul8(vtype);
         (vtype < 256)
@@ -170,40 +186,40 @@ impl Control {
     }
 
     // Whether vl may be kept at a new vtype.
-    fn keeps(self, board: Board, vtype: u64) -> bool
-        ensures { result ≡ keeps_of board self vtype }
+    fn keeps(self, hart: Hart, vtype: u64) -> bool
+        ensures { result ≡ keeps_of hart.board self vtype }
     {
         (self.vtype != Control::VILL)
-            & (Control::vlmax(board, self.vtype) == Control::vlmax(board, vtype))
+            & (Control::vlmax(hart, self.vtype) == Control::vlmax(hart, vtype))
     }
 
     // The record after a setting instruction, which asks for an application vector length, or with none to keep vl.
-    pub fn set(self, board: Board, vtype: u64, avl: Option<u64>) -> Control
-        ensures { result ≡ set_of board self vtype avl }
+    pub fn set(self, hart: Hart, vtype: u64, avl: Option<u64>) -> Control
+        ensures { result ≡ set_of hart.board self vtype avl }
     {
-        let supported = Control::supported(board, vtype);
+        let supported = Control::supported(hart, vtype);
         match avl {
-            Some(n) => self.set_if(supported, vtype, n.min(Control::vlmax(board, vtype))),
-            None => self.set_if(supported & self.keeps(board, vtype), vtype, self.vl),
+            Some(n) => self.set_if(supported, vtype, n.min(Control::vlmax(hart, vtype))),
+            None => self.set_if(supported & self.keeps(hart, vtype), vtype, self.vl),
         }
     }
 
     // Whether vtype and vl can stand together.
-    fn typed_well(self, board: Board) -> bool
-        ensures { result ≡ typed_well_of board self }
+    fn typed_well(self, hart: Hart) -> bool
+        ensures { result ≡ typed_well_of hart.board self }
     {
         if self.vtype == Control::VILL {
             return self.vl == 0;
         }
-        Control::supported(board, self.vtype) & (self.vl <= Control::vlmax(board, self.vtype))
+        Control::supported(hart, self.vtype) & (self.vl <= Control::vlmax(hart, self.vtype))
     }
 
     // Whether the fields can be: answer 36 where not.
-    pub fn possible(self, board: Board) -> bool
-        ensures { result ≡ possible_of board self }
+    pub fn possible(self, hart: Hart) -> bool
+        ensures { result ≡ possible_of hart.board self }
     {
-        self.typed_well(board)
-            & (self.vstart < 8 * (board.vlenb as u64))
+        self.typed_well(hart)
+            & (self.vstart < 8 * (hart.board.vlenb as u64))
             & (self.vxrm <= 3)
             & (self.vxsat <= 1)
             & (self.vs <= 3)

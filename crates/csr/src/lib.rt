@@ -6,13 +6,13 @@ ghost use Rattle.std.specs.Prelude.{◌≡◌};
 ghost use Rattle.csr.specs.Csr.{when_accessible, read_of, written_of};
 
 use answer::Answer;
-use control::{Board, Control};
+use control::{Control, Hart};
 
 // Whether a CSR of the record may be read or written at all: it can be, and VS is not Off.
-fn accessible(board: Board, control: Control) -> Result<(), Answer>
-    ensures { result ≡ when_accessible board control (Ok tt) }
+fn accessible(hart: Hart, control: Control) -> Result<(), Answer>
+    ensures { result ≡ when_accessible hart.board control (Ok tt) }
 {
-    if !control.possible(board) {
+    if !control.possible(hart) {
         return Err(Answer::BadControl);
     }
     if control.is_off() {
@@ -22,10 +22,10 @@ fn accessible(board: Board, control: Control) -> Result<(), Answer>
 }
 
 // The value of a CSR, or the answer that refuses the read.
-pub fn read(board: Board, control: Control, csr: u64) -> Result<u64, Answer>
-    ensures { result ≡ read_of board control csr }
+pub fn read(hart: Hart, control: Control, csr: u64) -> Result<u64, Answer>
+    ensures { result ≡ read_of hart.board control csr }
 {
-    accessible(board, control)?;
+    accessible(hart, control)?;
     match csr {
         0x008 => Ok(control.vstart),
         0x009 => Ok(control.vxsat),
@@ -33,19 +33,19 @@ pub fn read(board: Board, control: Control, csr: u64) -> Result<u64, Answer>
         0x00F => Ok(2 * control.vxrm + control.vxsat),
         0xC20 => Ok(control.vl),
         0xC21 => Ok(control.vtype),
-        0xC22 => Ok(u64::from(board.vlenb)),
+        0xC22 => Ok(u64::from(hart.board.vlenb)),
         _ => Err(Answer::Illegal),
     }
 }
 
 // The record after a write, or the answer that refuses it.
-pub fn write(board: Board, control: Control, csr: u64, value: u64) -> Result<Control, Answer>
-    ensures { result ≡ written_of board control csr value }
+pub fn write(hart: Hart, control: Control, csr: u64, value: u64) -> Result<Control, Answer>
+    ensures { result ≡ written_of hart.board control csr value }
 {
-    accessible(board, control)?;
+    accessible(hart, control)?;
     let next = control.dirtied();
     match csr {
-        0x008 => Ok(next.with_vstart(value % (8 * u64::from(board.vlenb)))),
+        0x008 => Ok(next.with_vstart(value % (8 * u64::from(hart.board.vlenb)))),
         0x009 => Ok(next.with_vxsat(value % 2)),
         0x00A => Ok(next.with_vxrm(value % 4)),
         0x00F => Ok(next.with_vxrm(value / 2 % 4).with_vxsat(value % 2)),

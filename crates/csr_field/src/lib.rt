@@ -6,14 +6,14 @@ ghost use Rattle.std.specs.Prelude.{◌≡◌};
 ghost use Rattle.csr.specs.Csr.{written_of, record_after, outcome};
 
 use answer::Answer;
-use control::{Board, Control};
+use control::{Control, Hart};
 
 // The record is lent, and one field of it is stored to (0x00F: two), and VS.
-pub fn write(board: Board, control: &mut Control, csr: u64, value: u64) -> Result<(), Answer>
-    ensures answered { result ≡ outcome (written_of board control.old csr value) }
-    ensures stored { control.new ≡ record_after control.old (written_of board control.old csr value) }
+pub fn write(hart: Hart, control: &mut Control, csr: u64, value: u64) -> Result<(), Answer>
+    ensures answered { result ≡ outcome (written_of hart.board control.old csr value) }
+    ensures stored { control.new ≡ record_after control.old (written_of hart.board control.old csr value) }
 {
-    let next = csr::write(board, *control, csr, value)?;
+    let next = csr::write(hart, *control, csr, value)?;
     match csr {
         0x008 => control.vstart = next.vstart,
         0x009 => control.vxsat = next.vxsat,
@@ -29,10 +29,10 @@ pub fn write(board: Board, control: &mut Control, csr: u64, value: u64) -> Resul
 }
 
 // The same for a caller that has the record by value: it is lent to `write` and handed back.
-pub fn written(board: Board, control: Control, csr: u64, value: u64) -> Result<Control, Answer>
-    ensures { result ≡ written_of board control csr value }
+pub fn written(hart: Hart, control: Control, csr: u64, value: u64) -> Result<Control, Answer>
+    ensures { result ≡ written_of hart.board control csr value }
 {
     let mut record = control;
-    write(board, &mut record, csr, value)?;
+    write(hart, &mut record, csr, value)?;
     Ok(record)
 }

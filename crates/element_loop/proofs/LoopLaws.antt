@@ -17,7 +17,7 @@ use Rattle.answer.specs.declared.Answer.TheVariants.{Finished, Paused}
 use Rattle.control.specs.declared.Board.{Board}
 use Rattle.control.specs.declared.Control.{Control}
 use Rattle.control.specs.Control.{with_vstart, with_vxsat, dirtied}
-use Rattle.control.proofs.Laws.{possible-apart, valid}
+use Rattle.control.proofs.Laws.{possible-apart}
 use Rattle.layout.proofs.BytesLaws.{Bytes}
 use Rattle.access.specs.declared.FaultPlace.{FaultPlace}
 use Rattle.access.specs.declared.Fault.{Fault}
@@ -134,10 +134,10 @@ module _ (b : Board) (e : Elementwise) (registers₀ scalars memory₀ rights : 
     pub the-sound : PlanSound b (P.Elements e)
     the-sound =
         subst (PlanSound b) l.plan
-        (plan-sound b scalars c l.word (valid b) (possible-apart b c the_facts.acceptable.possible) l.fits)
+        (plan-sound b scalars c l.word l.valid (possible-apart b c the_facts.acceptable.possible) l.fits)
 
     the-lawful : Lawful J
-    the-lawful = lawful b (valid b) (P.Elements e) the-sound
+    the-lawful = lawful b l.valid (P.Elements e) the-sound
 
     the-legal : elements_legal b c e ≡ true
     the-legal = elements-of-legal b c e the_facts.legal
@@ -148,7 +148,7 @@ module _ (b : Board) (e : Elementwise) (registers₀ scalars memory₀ rights : 
 
     pub next-prepared : (k : ℕ) → k < e.end → Prepared b e k
     next-prepared k =
-        prepared b scalars c (valid b) (possible-apart b c the_facts.acceptable.possible) k l.word e l.fits l.plan
+        prepared b scalars c l.valid (possible-apart b c the_facts.acceptable.possible) k l.word e l.fits l.plan
         is-there (elements-fit b c e the-legal)
 
     pub going-none : Bytes registers₀ → Going 0 registers₀ memory₀ c.vxsat
@@ -160,7 +160,7 @@ module _ (b : Board) (e : Elementwise) (registers₀ scalars memory₀ rights : 
     }
 
     pub end_fits : Fits w64 e.end
-    end_fits = record { fits = omega (arith, the-sound.end, (valid b).most) }
+    end_fits = record { fits = omega (arith, the-sound.end, l.valid.most) }
 
     -- what a turn that ends so leaves
     ended : (r : Turned) (registers memory : List ℕ) (o : TurnEnd J) → turn J the-turn the-point ≡ o

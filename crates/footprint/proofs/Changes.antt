@@ -12,7 +12,7 @@ use Rattle.answer.specs.declared.Answer.TheVariants.{Finished, Paused, Illegal, 
 use Rattle.answer.specs.declared.Answer.TheVariants.{BadRegisters, BadScalars, BadMemory, BadRights, BadControl, NoGroup}
 use Rattle.control.specs.declared.Board.{Board}
 use Rattle.control.specs.Board.{Valid, base, small}
-use Rattle.control.proofs.Laws.{possible-apart, valid}
+use Rattle.control.proofs.Laws.{possible-apart, base-valid, small-valid}
 use Rattle.decode.specs.Word.{decode_of}
 use Rattle.decode.proofs.Fields.{fits}
 use Rattle.plan.specs.declared.Plan.{Plan}
@@ -354,7 +354,7 @@ changes-follow-on b w = record {
 
 -- with no premise left, on the two boards that there are
 pub changes-follow : ChangesFollow base
-changes-follow = changes-follow-on base (valid base)
+changes-follow = changes-follow-on base base-valid
 
 pub small-changes-follow : ChangesFollow small
-small-changes-follow = changes-follow-on small (valid small)
+small-changes-follow = changes-follow-on small small-valid

@@ -12,17 +12,17 @@ ghost use Rattle.legality.specs.Legal.{startable, overlap_fits, read_fits, write
 ghost use Rattle.legality.specs.Legal.{is_there, elements_legal, writes_mask, mask_apart, reduction_placed, packing_placed, one_turn_legal};
 ghost use Rattle.legality.specs.Legal.{may_share_each, sources_fit, kind_legal, legal_of, checked_of};
 
-use control::{Board, Control};
+use control::{Control, Hart};
 use decode::{Instruction, MaskInstruction, MaskOp, PermutationOp};
 use group::Group;
 use plan::{Action, Elementwise, OneTurn, Packing, Plan, Read, Reduction, Sources};
 
 // vill is clear, and vstart below 8 * VLEN / SEW.
-fn may_start(board: Board, control: Control) -> bool
-    ensures { result ≡ startable board control }
+fn may_start(hart: Hart, control: Control) -> bool
+    ensures { result ≡ startable hart.board control }
 {
     (control.vtype != Control::VILL)
-        & (control.vstart < 64 * (board.vlenb as u64) / Control::sew(control.vtype))
+        & (control.vstart < 64 * (hart.board.vlenb as u64) / Control::sew(control.vtype))
 }
 
 // Whether a destination may overlap a source as it does: not at all, where the instruction is strict.
@@ -112,13 +112,13 @@ fn is_there(action: Action) -> bool
     }
 }
 
-fn elements_legal(board: Board, control: Control, e: Elementwise) -> bool
+fn elements_legal(hart: Hart, control: Control, e: Elementwise) -> bool
     requires { InRange e }
-    ensures { result ≡ elements_legal board control e }
+    ensures { result ≡ elements_legal hart.board control e }
 {
     let action = e.action;
-    (!e.typed | may_start(board, control))
-        & (is_there(action) & operands_fit(board.elen as usize, e))
+    (!e.typed | may_start(hart, control))
+        & (is_there(action) & operands_fit(hart.board.elen as usize, e))
 }
 
 fn writes_mask(op: MaskOp) -> bool
@@ -157,22 +157,22 @@ fn packing_placed(elen: usize, p: Packing) -> bool
             & (read_fits(elen, true, true, vd, Read::Bit(p.mask)) & group::spares_v0(p.masked, vd)))
 }
 
-fn one_turn_legal(board: Board, control: Control, t: OneTurn) -> bool
+fn one_turn_legal(hart: Hart, control: Control, t: OneTurn) -> bool
     requires { OneTurnFits t }
-    ensures { result ≡ one_turn_legal board control t }
+    ensures { result ≡ one_turn_legal hart.board control t }
 {
     match t {
         OneTurn::Setting(_) => true,
-        OneTurn::Mask(m) => may_start(board, control) & ((control.vstart == 0) & mask_apart(m)),
+        OneTurn::Mask(m) => may_start(hart, control) & ((control.vstart == 0) & mask_apart(m)),
         OneTurn::Reduction(r) => {
-            may_start(board, control)
-                & ((control.vstart == 0) & reduction_placed(board.elen as usize, r))
+            may_start(hart, control)
+                & ((control.vstart == 0) & reduction_placed(hart.board.elen as usize, r))
         }
         OneTurn::Packing(p) => {
-            may_start(board, control)
-                & ((control.vstart == 0) & packing_placed(board.elen as usize, p))
+            may_start(hart, control)
+                & ((control.vstart == 0) & packing_placed(hart.board.elen as usize, p))
         }
-        OneTurn::ScalarMove(_) => may_start(board, control),
+        OneTurn::ScalarMove(_) => may_start(hart, control),
     }
 }
 
@@ -214,38 +214,38 @@ fn sources_fit(sources: Sources) -> bool
 }
 
 // Whether a plan is legal, but for what its sources share.
-fn kind_legal(board: Board, control: Control, plan: Plan) -> bool
+fn kind_legal(hart: Hart, control: Control, plan: Plan) -> bool
     requires { PlanFits plan }
-    ensures { result ≡ kind_legal board control plan }
+    ensures { result ≡ kind_legal hart.board control plan }
 {
     match plan {
         Plan::Illegal => false,
-        Plan::OneTurn(t) => one_turn_legal(board, control, t),
-        Plan::Elements(e) => elements_legal(board, control, e),
+        Plan::OneTurn(t) => one_turn_legal(hart, control, t),
+        Plan::Elements(e) => elements_legal(hart, control, e),
     }
 }
 
 // Whether a plan is legal.
-fn legal(board: Board, control: Control, plan: Plan) -> bool
+fn legal(hart: Hart, control: Control, plan: Plan) -> bool
     requires { PlanFits plan }
-    ensures { result ≡ legal_of board control plan }
+    ensures { result ≡ legal_of hart.board control plan }
 {
     if control.is_off() {
         return false;
     }
-    if !kind_legal(board, control, plan) {
+    if !kind_legal(hart, control, plan) {
         return false;
     }
     sources_fit(plan::sources_of(plan))
 }
 
 // The plan of a decoded word where it is legal, and `Illegal` where not.
-pub fn checked(board: Board, x: &[u64; 32], control: Control, instruction: Instruction) -> Plan
+pub fn checked(hart: Hart, x: &[u64; 32], control: Control, instruction: Instruction) -> Plan
     requires { (sew_of control.vtype ≤ 64) × ((control.vl ≤ 128) × Fits instruction) }
-    ensures { result ≡ checked_of board control (plan_of board x.now control instruction) }
+    ensures { result ≡ checked_of hart.board control (plan_of hart.board x.now control instruction) }
 {
-    let plan = plan::plan_of(board, x, control, instruction);
-    if legal(board, control, plan) {
+    let plan = plan::plan_of(hart, x, control, instruction);
+    if legal(hart, control, plan) {
         return plan;
     }
     Plan::Illegal

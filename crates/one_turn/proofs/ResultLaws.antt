@@ -11,7 +11,7 @@ use Rattle.control.specs.declared.Board.{Board}
 use Rattle.control.specs.declared.Control.{Control}
 use Rattle.control.specs.Vtype.{vill, sew_of, supported_of}
 use Rattle.control.specs.Control.{with_vstart, set_of}
-use Rattle.control.proofs.Laws.{Possible, possible-apart, sew-ge, valid}
+use Rattle.control.proofs.Laws.{Possible, possible-apart, sew-ge}
 use Rattle.decode.specs.declared.Setting.{Setting}
 use Rattle.decode.specs.declared.MaskOp.{MaskOp}
 use Rattle.decode.specs.declared.MaskInstruction.{MaskInstruction}
@@ -103,7 +103,7 @@ module _ (b : Board) (size : ℕ) (x : List ℕ) (c : Control) (t : OneTurn) (h 
 
   pub mask-holds : (m : MaskInstruction) → t ≡ O.Mask m → Holds size b.vlenb c.vl m
   mask-holds m e =
-      record { whole = h.registers; most = (valid b).most; within = can-be.vl; fits = subst OneTurnFits e one-turn-in-range }
+      record { whole = h.registers; most = h.valid.most; within = can-be.vl; fits = subst OneTurnFits e one-turn-in-range }
 
   pub mask-is-apart : (m : MaskInstruction) → t ≡ O.Mask m → T (mask_apart m)
   unfolding one_turn_legal
@@ -112,11 +112,11 @@ module _ (b : Board) (size : ℕ) (x : List ℕ) (c : Control) (t : OneTurn) (h 
 
   pub reduction-holds : (r : Reduction) → t ≡ O.Reduction r → Reducible size b.vlenb r c.vl
   reduction-holds r e =
-      rw h.registers (reducible b c (valid b) can-be x h.word r h.fits (h.plan ∙ ap P.OneTurn e) (is-legal (O.Reduction r) e))
+      rw h.registers (reducible b c h.valid can-be x h.word r h.fits (h.plan ∙ ap P.OneTurn e) (is-legal (O.Reduction r) e))
 
   pub packing-holds : (p : Packing) → t ≡ O.Packing p → Packable size b.vlenb p c.vl
   packing-holds p e =
-      rw h.registers (packable b c (valid b) can-be x h.word p h.fits (h.plan ∙ ap P.OneTurn e) (is-legal (O.Packing p) e))
+      rw h.registers (packable b c h.valid can-be x h.word p h.fits (h.plan ∙ ap P.OneTurn e) (is-legal (O.Packing p) e))
 
   pub move-holds : (m : ScalarMove) → t ≡ O.ScalarMove m → Movable size b.vlenb m
   unfolding one_turn_legal
@@ -127,9 +127,9 @@ module _ (b : Board) (size : ℕ) (x : List ℕ) (c : Control) (t : OneTurn) (h 
       let s : sew_of c.vtype ≤ b.elen = typed-sew b c can-be (both_left (not (eqb c.vtype vill)) _ (is-legal (O.ScalarMove m) e)) in
       record {
         scalar = f.scalar;
-        width = record { some = omega (arith, w, sew-ge c.vtype); most = omega (arith, w, s, (valid b).elen) };
+        width = record { some = omega (arith, w, sew-ge c.vtype); most = omega (arith, w, s, h.valid.elen) };
         element = rw h.registers (subst (λ n. Inside (32 * b.vlenb) b.vlenb m.vector.reg n 0) (sym w)
-            (register-inside b (sew_of c.vtype) m.vector.reg (valid b) (sew-power c.vtype) (sew-ge c.vtype) s f.vector));
+            (register-inside b (sew_of c.vtype) m.vector.reg h.valid (sew-power c.vtype) (sew-ge c.vtype) s f.vector));
       }
 
 -- a setting instruction takes nothing from vstart

@@ -18,7 +18,7 @@ ghost use Rattle.execute.specs.Step.{core_at};
 ghost use Rattle.one_turn.specs.Holds.{Holds, Movable};
 ghost use Rattle.one_turn.specs.Performable.{Performable};
 
-use control::{Board, Control};
+use control::{Control, Hart};
 use decode::{AvlSource, MaskInstruction, MaskOp, ScalarMoveOp, Setting, TypeSource};
 use plan::{OneTurn, ScalarMove};
 use width::Eew;
@@ -61,14 +61,14 @@ fn type_of(x: &[u64; 32], vtype: TypeSource) -> u64
 }
 
 // The control record after a setting instruction; rd gets the new vl.
-fn setting(board: Board, scalars: &mut [u64; 32], control: Control, s: Setting) -> Control
+fn setting(hart: Hart, scalars: &mut [u64; 32], control: Control, s: Setting) -> Control
     requires { SettingFits s }
-    ensures { (result ≡ set_of board control (type_from scalars.old s.vtype) (avl_from scalars.old s.avl))
+    ensures { (result ≡ set_of hart.board control (type_from scalars.old s.vtype) (avl_from scalars.old s.avl))
         × (scalars.new ≡ with_scalar scalars.old s.rd result.vl) }
 {
     let avl = s.avl;
     let vtype = s.vtype;
-    let next = control.set(board, type_of(scalars, vtype), avl_of(scalars, avl));
+    let next = control.set(hart, type_of(scalars, vtype), avl_of(scalars, avl));
     put_scalar(scalars, s.rd, next.vl);
     next
 }
@@ -241,34 +241,34 @@ fn scalar_turn(
 
 // The results of an instruction that takes one turn, and the control record after it: vstart is 0.
 pub fn perform(
-    board: Board,
+    hart: Hart,
     registers: &mut [u8],
     scalars: &mut [u64; 32],
     control: Control,
     t: OneTurn,
 ) -> Control
-    requires { Performable board (length registers.old) scalars.old control t }
+    requires { Performable hart.board (length registers.old) scalars.old control t }
     ensures { (memory : List ℕ) → core_at registers.new memory scalars.new result
-        ≡ one_turn_result board t control.vstart
+        ≡ one_turn_result hart.board t control.vstart
         (core_at registers.old memory scalars.old (with_vstart control 0)) }
 {
     match t {
-        OneTurn::Setting(s) => return setting(board, scalars, control, s),
+        OneTurn::Setting(s) => return setting(hart, scalars, control, s),
         OneTurn::Mask(m) => mask_turn(
             registers,
             scalars,
-            board.vlenb as usize,
+            hart.board.vlenb as usize,
             control.vl as usize,
             m,
         ),
         OneTurn::Reduction(r) => {
-            reduction::reduce(registers, board.vlenb as usize, r, control.vl as usize)
+            reduction::reduce(registers, hart.board.vlenb as usize, r, control.vl as usize)
         }
         OneTurn::Packing(p) => {
-            packing::pack(registers, board.vlenb as usize, p, control.vl as usize)
+            packing::pack(registers, hart.board.vlenb as usize, p, control.vl as usize)
         }
         OneTurn::ScalarMove(m) => {
-            scalar_turn(registers, scalars, board.vlenb as usize, control, m)
+            scalar_turn(registers, scalars, hart.board.vlenb as usize, control, m)
         }
     }
     control.with_vstart(0)

@@ -15,7 +15,7 @@ ghost use Rattle.plan.specs.Sources.{v0_source, element_sources, reduction_sourc
 ghost use Rattle.plan.specs.Sources.{sources_of};
 ghost use Rattle.plan.specs.Range.{InRange, ReductionInRange, PackingInRange, OneTurnFits, PlanFits, Lists};
 
-use control::{Board, Control};
+use control::{Control, Hart};
 use decode::{
     Access, Arithmetic, Instruction, MaskInstruction, Mode, PackInstruction, PackOp,
     PermutationInstruction, PermutationOp, ReductionInstruction, ReductionOp,
@@ -333,19 +333,19 @@ fn moved_by(x: &[u64; 32], vtype: u64, op: PermutationOp, source: Source) -> Rea
 
 // A permutation that goes element by element.
 fn permuting(
-    board: Board,
+    hart: Hart,
     x: &[u64; 32],
     control: Control,
     a: PermutationInstruction,
 ) -> Elementwise
     requires { (sew_of control.vtype ≤ 64) × PermutationFits a }
-    ensures { result ≡ permuting_of board x.now control a }
+    ensures { result ≡ permuting_of hart.board x.now control a }
 {
     let op = a.op;
     let source = a.source;
     let vtype = control.vtype;
     let sew = Control::sew(vtype);
-    let vlmax = Control::vlmax(board, vtype);
+    let vlmax = Control::vlmax(hart, vtype);
     let dest = groups_at(vtype, sew, a.vd, 0);
     let vs2 = moved_elements(vtype, op, a.vs2);
     let vs1 = moved_by(x, vtype, op, source);
@@ -421,9 +421,9 @@ fn register_at(eew: usize, reg: usize) -> Group
 }
 
 // A load or a store, by its addressing mode.
-fn transferring(board: Board, x: &[u64; 32], control: Control, a: Access) -> Elementwise
+fn transferring(hart: Hart, x: &[u64; 32], control: Control, a: Access) -> Elementwise
     requires { (control.vl ≤ 128) × AccessFits a }
-    ensures { result ≡ transferring_of board x.now control a }
+    ensures { result ≡ transferring_of hart.board x.now control a }
 {
     let mode = a.mode;
     let vtype = control.vtype;
@@ -453,7 +453,7 @@ fn transferring(board: Board, x: &[u64; 32], control: Control, a: Access) -> Ele
         }
         Mode::Whole(n) => {
             let t = transfer_by(a.store, base, bytes, bytes);
-            let end = (n as u64) * (8 * (board.vlenb as u64)) / eew;
+            let end = (n as u64) * (8 * (hart.board.vlenb as u64)) / eew;
             let group = fixed_group(a.vd, eew as usize, (8 * n) as u32);
             moving(a, false, group, plain, t, end)
         }
@@ -546,9 +546,9 @@ fn scalar_moving(vtype: u64, a: ScalarMoveInstruction) -> ScalarMove
 // ---- every decoded word
 
 // The plan of a decoded word.
-pub fn plan_of(board: Board, x: &[u64; 32], control: Control, instruction: Instruction) -> Plan
+pub fn plan_of(hart: Hart, x: &[u64; 32], control: Control, instruction: Instruction) -> Plan
     requires { (sew_of control.vtype ≤ 64) × ((control.vl ≤ 128) × Fits instruction) }
-    ensures { result ≡ plan_of board x.now control instruction }
+    ensures { result ≡ plan_of hart.board x.now control instruction }
 {
     match instruction {
         Instruction::Illegal => Plan::Illegal,
@@ -560,8 +560,8 @@ pub fn plan_of(board: Board, x: &[u64; 32], control: Control, instruction: Instr
             Plan::OneTurn(OneTurn::ScalarMove(scalar_moving(control.vtype, a)))
         }
         Instruction::Arithmetic(a) => Plan::Elements(computing(x, control, a)),
-        Instruction::Permutation(a) => Plan::Elements(permuting(board, x, control, a)),
-        Instruction::Memory(a) => Plan::Elements(transferring(board, x, control, a)),
+        Instruction::Permutation(a) => Plan::Elements(permuting(hart, x, control, a)),
+        Instruction::Memory(a) => Plan::Elements(transferring(hart, x, control, a)),
     }
 }
 

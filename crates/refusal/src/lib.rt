@@ -6,7 +6,7 @@ ghost use Rattle.std.specs.Prelude.{◌≡◌};
 ghost use Rattle.refusal.specs.Refusal.{rights_fit, refusal_of};
 
 use answer::Answer;
-use control::{Board, Control};
+use control::{Control, Hart};
 
 // Whether no right is above 2: the greatest is looked for in a loop with no other way out, which is compiled to vectors.
 fn rights_fit(rights: &[u8]) -> bool
@@ -17,16 +17,16 @@ fn rights_fit(rights: &[u8]) -> bool
 
 // What a state handed in comes to on a board, by the lengths of its parts, its rights and its control record.
 pub fn refusal(
-    board: Board,
+    hart: Hart,
     registers: usize,
     scalars: usize,
     memory: usize,
     rights: &[u8],
     control: Control,
 ) -> Result<(), Answer>
-    ensures { result ≡ refusal_of board registers scalars memory rights.now control }
+    ensures { result ≡ refusal_of hart.board registers scalars memory rights.now control }
 {
-    if registers as u64 != 32 * (board.vlenb as u64) {
+    if registers as u64 != 32 * (hart.board.vlenb as u64) {
         return Err(Answer::BadRegisters);
     }
     if scalars != 32 {
@@ -41,7 +41,7 @@ pub fn refusal(
     if !rights_fit(rights) {
         return Err(Answer::BadRights);
     }
-    if !control.possible(board) {
+    if !control.possible(hart) {
         return Err(Answer::BadControl);
     }
     Ok(())

@@ -14,7 +14,7 @@ use Rattle.answer.specs.declared.Answer.TheVariants.{Paused}
 use Rattle.answer.specs.Answer.{number_of}
 use Rattle.control.specs.declared.Board.{Board}
 use Rattle.control.specs.Board.{Valid, base}
-use Rattle.control.proofs.Laws.{valid, possible-apart}
+use Rattle.control.proofs.Laws.{base-valid, possible-apart}
 use Rattle.plan.specs.declared.Plan.{Plan}
 use Rattle.turn_theory.specs.Turn.{Semantics, TurnEnd}
 use Rattle.turn_theory.proofs.Laws.{turn-cases}
@@ -79,7 +79,7 @@ Suffices n p = number_of p.answer ≡ 1 → (1 ≤ n) × (most_turns ≤ p.state
 module _ (word allow : ℕ) (l : 1 ≤ allow) where
   one_less : (n : ℕ) (p : Progress) → most_turns ≤ p.state.control.vstart + suc n → Suffices n (joined p (turned word allow p.state))
   one_less n p h e =
-      let m = pause-moves base word allow p.state (valid base) l (paused-is _ e) in
+      let m = pause-moves base word allow p.state base-valid l (paused-is _ e) in
       (omega (arith, m.0), omega (arith, m.1))
 
   turns-end : (n : ℕ) (p : Progress) → Suffices n p → is_paused (more_turns n word allow p).answer ≡ false

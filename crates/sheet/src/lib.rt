@@ -17,7 +17,7 @@ ghost use Rattle.sheet.specs.Left.{held, Leaves};
 
 use access::Wanted;
 use answer::Answer;
-use control::{Board, Control};
+use control::{Control, Hart};
 use machine::Turned;
 use sheet_read::Words;
 use text::Text;
@@ -143,10 +143,10 @@ fn scalars(sheet: &[u8]) -> [u64; 32]
 // ---- the machine, and its run
 
 // The board of every sheet.
-fn board() -> Board
-    ensures { result ≡ base }
+fn hart() -> Hart
+    ensures { result.board ≡ base }
 {
-    Board::BASE
+    Hart::BASE
 }
 
 // The machine that a sheet runs on.
@@ -184,7 +184,7 @@ impl Machine {
             Leaves p text.old text.new self.new × ((result ≡ p.answer) × (text.new.at ≤ text.old.at + report_bound)) }
     {
         let turned = turn::turn(
-            board(),
+            hart(),
             word,
             allow,
             &mut self.registers,

@@ -14,9 +14,10 @@ use Rattle.answer.specs.declared.Answer.{Answer}
 use Rattle.answer.specs.declared.Answer.TheVariants.{Finished, Illegal}
 use Rattle.control.specs.declared.Board.{Board}
 use Rattle.control.specs.declared.Control.{Control}
+use Rattle.control.specs.Board.{Valid}
 use Rattle.control.specs.Control.{with_vstart, dirtied, is_off}
 use Rattle.control.specs.Vtype.{sew_of}
-use Rattle.control.proofs.Laws.{Possible, possible-apart, typed-well-apart, supported-sew-le, valid}
+use Rattle.control.proofs.Laws.{Possible, possible-apart, typed-well-apart, supported-sew-le}
 use Rattle.decode.specs.declared.Instruction.{Instruction}
 use Rattle.decode.specs.Word.{decode_of}
 use Rattle.decode.specs.Fields.{Fits}
@@ -59,12 +60,12 @@ module _ (b : Board) (registers scalars memory : ℕ) (rights : List ℕ) (c : C
   accepted-rights = (accepted-facts b registers scalars memory rights c accepted).rights-length
 
   -- with vill set, SEW by its bits is 8
-  pub accepted-sew : sew_of c.vtype ≤ 64
-  accepted-sew =
-      ⊎_elim (λ e. rw e.0 (omega arith)) (λ e. supported-sew-le b c.vtype (valid b) e.0) (typed-well-apart b c accepted-possible.typed)
+  pub accepted-sew : Valid b → sew_of c.vtype ≤ 64
+  accepted-sew w =
+      ⊎_elim (λ e. rw e.0 (omega arith)) (λ e. supported-sew-le b c.vtype w e.0) (typed-well-apart b c accepted-possible.typed)
 
-  pub accepted-vl : c.vl ≤ 128
-  accepted-vl = omega (arith, accepted-possible.vl, b.most)
+  pub accepted-vl : Valid b → c.vl ≤ 128
+  accepted-vl w = omega (arith, accepted-possible.vl, w.most)
 
 -- the array that is lent of 32 scalars is all of them, and what is left in it is all that is left
 module _ (x : List ℕ) (l : length x ≡ 32) where
@@ -112,12 +113,13 @@ module _ (b : Board) (x : List ℕ) (c : Control) (d : Instruction) (p : Plan) (
 
 -- what the turn of an instruction that takes one turn relies on, of an accepted state
 pub one-turn-performable : (b : Board) (word registers memory : ℕ) (x rights : List ℕ) (c : Control) (v : Result ⊤ Answer) (d : Instruction)
-    (p : Plan) (t : OneTurn) → v ≡ refusal_of b registers (length x) memory rights c → v ≡ Ok tt → d ≡ decode_of word
+    (p : Plan) (t : OneTurn) → Valid b → v ≡ refusal_of b registers (length x) memory rights c → v ≡ Ok tt → d ≡ decode_of word
     → p ≡ checked_of b c (plan_of b x c d) → p ≡ P.OneTurn t → Performable b registers x c t
-one-turn-performable b word registers memory x rights c v d p t q h k u e =
+one-turn-performable b word registers memory x rights c v d p t w q h k u e =
     let y = one-turn-planned b x c d p u t e in
     let a = accepted-facts b registers (length x) memory rights c (sym q ∙ h) in
     record {
+      valid = w;
       registers = a.registers-length;
       possible = a.possible;
       word = d;
@@ -176,10 +178,10 @@ module _ (b : Board) (word : ℕ) (file x memory rights : List ℕ) (c : Control
         ∙ ap (λ (s : Core). left (still Finished (dirtied (with_vstart s.control 0))) s.registers s.scalars s.memory rights) z
         ∙ sym (ap (outcome_of b w rights) (one-turn (semantics_of b w) _ _ (rejection-is w true y.1) refl)))
 
-    pub elements-runnable : (e : Elementwise) → p ≡ P.Elements e → Runnable b before e
-    elements-runnable e f =
+    pub elements-runnable : (e : Elementwise) → Valid b → p ≡ P.Elements e → Runnable b before e
+    elements-runnable e w f =
         let y = elements-planned b x c d p u e f in
-        record { word = d; fits = decoded-fits word d k; plan = y.0; is-legal = rejection-is (P.Elements e) true y.1 }
+        record { valid = w; word = d; fits = decoded-fits word d k; plan = y.0; is-legal = rejection-is (P.Elements e) true y.1 }
 
     pub elements-word : (n : ℕ) (e : Elementwise) (o : Outcome) → p ≡ P.Elements e → o ≡ plan_turn b (P.Elements e) n before
         → o ≡ turn_of b word n before

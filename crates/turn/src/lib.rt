@@ -11,7 +11,7 @@ ghost use Rattle.machine.specs.Machine.{turn_of};
 
 use access::FaultPlace;
 use answer::Answer;
-use control::{Board, Control};
+use control::{Control, Hart};
 use machine::Turned;
 use plan::Plan;
 
@@ -39,7 +39,7 @@ fn finished(control: Control) -> Turned
 // returned, the rest of what it leaves stands in the lent parts. No Result is made of refusal and 2, here and in access_check:
 // `Plan::Illegal` would still be matched, beside `Err`.
 pub fn turn(
-    board: Board,
+    hart: Hart,
     word: u32,
     allowance: u32,
     registers: &mut [u8],
@@ -49,11 +49,11 @@ pub fn turn(
     control: Control,
 ) -> Turned
     ensures { left result registers.new scalars.new memory.new rights.now
-        ≡ turn_of board word allowance
+        ≡ turn_of hart.board word allowance
         (given registers.old scalars.old memory.old rights.now control) }
 {
     let refused = refusal::refusal(
-        board,
+        hart,
         registers.len(),
         scalars.len(),
         memory.len(),
@@ -70,11 +70,11 @@ pub fn turn(
     let Ok(rights) = <&[u8; 256]>::try_from(rights) else {
         unreachable!()
     };
-    match legality::checked(board, scalars, control, decode::decode(word)) {
+    match legality::checked(hart, scalars, control, decode::decode(word)) {
         Plan::Illegal => answered(Answer::Illegal, control),
-        Plan::OneTurn(t) => finished(one_turn::perform(board, registers, scalars, control, t)),
+        Plan::OneTurn(t) => finished(one_turn::perform(hart, registers, scalars, control, t)),
         Plan::Elements(e) => element_loop::elements(
-            board,
+            hart.board,
             registers,
             scalars,
             memory,

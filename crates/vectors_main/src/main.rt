@@ -12,7 +12,7 @@ ghost use Rattle.vectors_main.specs.declared.TheConstants.{REGISTERS, SCALARS, M
 
 use access::Wanted;
 use case_lines::next_bytes;
-use control::{Board, Control};
+use control::{Control, Hart};
 use machine::Turned;
 use std::array;
 use std::io::{self, BufReader, BufWriter, Read, Write};
@@ -65,8 +65,8 @@ enum Line {
     Scalar([u8; 19]),
     Registers([u8; 37]),
     Rights([u8; 9]),
-    Turn(Board),
-    Check(Board),
+    Turn(Hart),
+    Check(Hart),
 }
 
 // The next line; none at the end of the input, in a line or before one, and where a letter is none of these.
@@ -77,10 +77,10 @@ fn next_line(input: &mut impl Read) -> Option<Line> {
         b'x' => Line::Scalar(next_bytes(input)?),
         b'v' => Line::Registers(next_bytes(input)?),
         b'p' => Line::Rights(next_bytes(input)?),
-        b'.' => Line::Turn(Board::BASE),
-        b',' => Line::Turn(Board::SMALL),
-        b'?' => Line::Check(Board::BASE),
-        b'!' => Line::Check(Board::SMALL),
+        b'.' => Line::Turn(Hart::BASE),
+        b',' => Line::Turn(Hart::SMALL),
+        b'?' => Line::Check(Hart::BASE),
+        b'!' => Line::Check(Hart::SMALL),
         _ => return None,
     };
     if matches!(line, Line::Turn(_) | Line::Check(_)) {
@@ -155,8 +155,8 @@ impl Case {
             Line::Scalar(line) => case_lines::set_scalar(&mut self.scalars, &line),
             Line::Registers(line) => self.set_registers(&line),
             Line::Rights(line) => self.set_rights(&line),
-            Line::Turn(board) => return self.turn(board, blank, output),
-            Line::Check(board) => return print_checked(output, self.checked(board)),
+            Line::Turn(hart) => return self.turn(hart, blank, output),
+            Line::Check(hart) => return print_checked(output, self.checked(hart)),
         }
         Ok(())
     }
@@ -179,18 +179,18 @@ impl Case {
     }
 
     // The check on a board.
-    fn checked(&self, board: Board) -> Checked {
+    fn checked(&self, hart: Hart) -> Checked {
         let head = self.head;
         let registers = &self.registers[..head.registers];
         let scalars = &self.scalars[..head.scalars];
         let memory = &self.memory[..head.memory];
         let rights = &self.rights[..head.rights];
         let Head { word, control, .. } = head;
-        access_check::check(board, word, registers, scalars, memory, rights, control)
+        access_check::check(hart, word, registers, scalars, memory, rights, control)
     }
 
     // The turn on a board, and what it changed, which is put back but for the scalars.
-    fn turn(&mut self, board: Board, blank: &Case, output: &mut impl Write) -> io::Result<()> {
+    fn turn(&mut self, hart: Hart, blank: &Case, output: &mut impl Write) -> io::Result<()> {
         let registers_before = self.registers;
         let scalars_before = self.scalars;
         let Case {
@@ -201,7 +201,7 @@ impl Case {
             rights,
         } = self;
         let turned = turned(
-            board,
+            hart,
             *head,
             &mut registers[..head.registers],
             &mut scalars[..head.scalars],
@@ -218,7 +218,7 @@ impl Case {
 }
 
 fn turned(
-    board: Board,
+    hart: Hart,
     head: Head,
     registers: &mut [u8],
     scalars: &mut [u64],
@@ -232,7 +232,7 @@ fn turned(
         ..
     } = head;
     turn::turn(
-        board, word, allowance, registers, scalars, memory, rights, control,
+        hart, word, allowance, registers, scalars, memory, rights, control,
     )
 }
 

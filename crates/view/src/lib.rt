@@ -7,7 +7,7 @@ ghost use Rattle.answer.specs.Answer.{answer_of};
 ghost use Rattle.view.specs.View.{is_group_of, place_of, start_of, part_of, point_at};
 
 use answer::Answer;
-use control::Board;
+use control::Hart;
 
 // Where a group lies in the file, in bytes.
 #[derive(Clone, Copy, PartialEq, Eq)]
@@ -27,10 +27,10 @@ fn is_group(first: usize, count: usize) -> bool
 }
 
 // The place of a group on a board, in a file of so many bytes, or the answer that refuses it.
-pub fn place(board: Board, bytes: usize, first: usize, count: usize) -> Result<ViewPlace, Answer>
-    ensures { result ≡ place_of board bytes first count }
+pub fn place(hart: Hart, bytes: usize, first: usize, count: usize) -> Result<ViewPlace, Answer>
+    ensures { result ≡ place_of hart.board bytes first count }
 {
-    let vlenb = board.vlenb as usize;
+    let vlenb = hart.board.vlenb as usize;
     if bytes != 32 * vlenb {
         return Err(Answer::BadRegisters);
     }
@@ -46,17 +46,17 @@ pub fn place(board: Board, bytes: usize, first: usize, count: usize) -> Result<V
 // The bytes of the group, or an empty part; the answer beside it. (No Result: document 01 asks for a part of the file, or an empty part on
 // refusal.)
 pub fn view_with<'a>(
-    board: Board,
+    hart: Hart,
     registers: &'a [u8],
     first: usize,
     count: usize,
     answer: &mut Answer,
 ) -> &'a [u8]
-    ensures part { result.now ≡ part_of board registers.now first count }
-    ensures answered { answer.new ≡ answer_of (place_of board (length registers.now) first count) }
-    ensures place { result.ref_ptr ≡ point_at registers.entry.ref_ptr (start_of (place_of board (length registers.now) first count)) }
+    ensures part { result.now ≡ part_of hart.board registers.now first count }
+    ensures answered { answer.new ≡ answer_of (place_of hart.board (length registers.now) first count) }
+    ensures place { result.ref_ptr ≡ point_at registers.entry.ref_ptr (start_of (place_of hart.board (length registers.now) first count)) }
 {
-    match place(board, registers.len(), first, count) {
+    match place(hart, registers.len(), first, count) {
         Ok(place) => {
             *answer = Answer::Finished;
             &registers[place.start..place.start + place.size]
@@ -69,10 +69,10 @@ pub fn view_with<'a>(
 }
 
 // The same without the answer.
-pub fn view(board: Board, registers: &[u8], first: usize, count: usize) -> &[u8]
-    ensures part { result.now ≡ part_of board registers.now first count }
-    ensures place { result.ref_ptr ≡ point_at registers.entry.ref_ptr (start_of (place_of board (length registers.now) first count)) }
+pub fn view(hart: Hart, registers: &[u8], first: usize, count: usize) -> &[u8]
+    ensures part { result.now ≡ part_of hart.board registers.now first count }
+    ensures place { result.ref_ptr ≡ point_at registers.entry.ref_ptr (start_of (place_of hart.board (length registers.now) first count)) }
 {
     let mut answer = Answer::Finished;
-    view_with(board, registers, first, count, &mut answer)
+    view_with(hart, registers, first, count, &mut answer)
 }

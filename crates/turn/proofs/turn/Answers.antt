@@ -1,4 +1,5 @@
 use native.Mathlib.Omega.{arith}
+use Rattle.control.proofs.Laws.{valid}
 use Rattle.turn.proofs.Turns.{accepted-scalars, accepted-rights, accepted-sew, accepted-vl, all-lent, all-left, decoded-fits}
 use Rattle.turn.proofs.Turns.{refused-word, illegal-word, one-turn-performable, one-turn-word, elements-runnable, elements-word}
 use Rattle.turn.proofs.turn.Goals as goal
@@ -16,13 +17,13 @@ unreachable-requires-in_default-try_from c =
     c.in_default-try_from.ensures.1 (accepted-rights _ _ _ _ _ _ _ c.refusal-refused.ensures c.in_default.is)
 
 pub checked-requires : goal.checked-requires
-checked-requires c = (search accepted-sew, (search accepted-vl, search decoded-fits))
+checked-requires c = (search (accepted-sew, valid), (search (accepted-vl, valid), search decoded-fits))
 
 pub perform-requires : goal.perform-requires
 perform-requires c =
     let count = accepted-scalars _ _ _ _ _ _ _ c.refusal-refused.ensures c.in_default.is in
     let lent = all-lent _ count _ c.in-Some.ensures.cases in
-    rw lent (one-turn-performable _ _ _ _ _ _ _ _ _ _ _ c.refusal-refused.ensures c.in_default.is c.decode.ensures
+    rw lent (one-turn-performable _ _ _ _ _ _ _ _ _ _ _ (valid c.args.hart) c.refusal-refused.ensures c.in_default.is c.decode.ensures
     (rw lent at c.checked.ensures) c.in-OneTurn.is)
 
 pub elements-requires : goal.elements-requires
@@ -30,7 +31,7 @@ elements-requires c =
     let count = accepted-scalars _ _ _ _ _ _ _ c.refusal-refused.ensures c.in_default.is in
     let lent = all-lent _ count _ c.in-Some.ensures.cases in
     rw (lent, c.in-Ok.ensures.1.same) (elements-runnable _ _ _ _ _ _ _ _ _ _ c.refusal-refused.ensures c.in_default.is
-    c.decode.ensures (rw lent at c.checked.ensures) _ c.in-Elements.is)
+    c.decode.ensures (rw lent at c.checked.ensures) _ (valid c.args.hart) c.in-Elements.is)
 
 pub returns-in-Illegal : goal.returns-in-Illegal
 returns-in-Illegal c =
