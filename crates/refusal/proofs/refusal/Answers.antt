@@ -33,9 +33,9 @@ told q r x e h = rw (← e) h
 
 ruleset ways = (refused, passed, differ, same, lt-ltb, le-ltb, off-length, on-length, told)
 
-pub returns-then-registers-board : goal.returns-then-registers-board
+pub returns-then-registers-hart : goal.returns-then-registers-board
 unfolding refusal_of
-returns-then-registers-board c = search ways
+returns-then-registers-hart c = search ways
 
 pub returns-then-scalars-ne32 : goal.returns-then-scalars-ne32
 unfolding refusal_of
