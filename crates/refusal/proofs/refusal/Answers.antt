@@ -33,7 +33,7 @@ told q r x e h = rw (← e) h
 
 ruleset ways = (refused, passed, differ, same, lt-ltb, le-ltb, off-length, on-length, told)
 
-pub returns-then-registers-hart : goal.returns-then-registers-board
+pub returns-then-registers-hart : goal.returns-then-registers-hart
 unfolding refusal_of
 returns-then-registers-hart c = search ways
 
