@@ -24,7 +24,8 @@ impl Board {
 }
 
 // A hart on a board that can be (section 3: "each hart supporting a vector extension defines two parameters"): VLENB is a power of 2 and at
-// most 16, ELEN at most 64 and at most VLEN. It holds the board and nothing of the state.
+// most 16, ELEN at most 64 and at most VLEN. It stands beside a control record in many signatures and holds none: a call is handed a record
+// that may be any (`possible` is asked of it), and the next record goes on with the same hart.
 #[derive(Clone, Copy, PartialEq, Eq)]
 pub struct Hart {
     pub board: Board,

@@ -1,4 +1,5 @@
-// The loops over the elements of one turn.
+// The loops over the elements of one turn. The parts of the state come one by one, as `turn` was lent them: of a struct of lent parts each
+// contract would say too that the parts are still those that were lent.
 
 #![tactic(auto)]
 
