@@ -36,9 +36,9 @@ fn finished(control: Control) -> Turned
 }
 
 // One turn of a word on a board, of at most `allowance` elements: refusals 32 to 36, then 2, then what its plan says. Answer and counts are
-// returned, the rest of what it leaves stands in the lent parts. No Result is made of refusal and 2, here and in access_check:
-// `Plan::Illegal` would still be matched, beside `Err`. The parts of the state are lent one by one, as C lends them: a struct of them would be
-// made by each caller and taken apart in the first lines.
+// returned, the rest of what it leaves stands in the lent parts. These come one by one, as C lends them: a struct of them would be made by
+// each caller and taken apart in the first lines. No Result is made of refusal and 2, here and in access_check: `Plan::Illegal` would still
+// be matched, beside `Err`.
 pub fn turn(
     hart: Hart,
     word: u32,
