@@ -30,9 +30,6 @@ sizes P n e p₁ p₂ p₄ p₈ =
     is : (k : ℕ) → P k → eqb n k ≡ true → P n
     is k p h = rw (eqb-true n k h) p
 
-pub some : (n : ℕ) → (eqb n 1 || eqb n 2 || eqb n 4 || eqb n 8) ≡ true → 0 < n
-some n e = sizes (λ k. 0 < k) n e (lit≤ tt) (lit≤ tt) (lit≤ tt) (lit≤ tt)
-
 -- the registers of a group are among the 32
 pub within : (f n : ℕ) → is_group_of f n ≡ true → f + n ≤ 32
 unfolding is_group_of
