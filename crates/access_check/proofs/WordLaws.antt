@@ -33,8 +33,6 @@ use Rattle.layout.proofs.WidthLaws.{bytes-size}
 use Rattle.refusal.specs.Refusal.{refusal_of}
 use Rattle.plan.specs.declared.Action.{Action}
 use Rattle.plan.specs.declared.Action.TheVariants as A
-use Rattle.plan.specs.declared.Compute.{Compute}
-use Rattle.plan.specs.declared.Permute.{Permute}
 use Rattle.plan.specs.declared.Transfer.{Transfer}
 use Rattle.plan.specs.declared.Elementwise.{Elementwise}
 use Rattle.plan.specs.declared.OneTurn.{OneTurn}
@@ -59,19 +57,8 @@ use Rattle.access_check.proofs.CheckLaws.{Stepping, refused-check, illegal-check
 
 -- ---- the action of a plan
 
-pub computes-not : (a : Action) (k : Compute) (t : Transfer) → a ≡ A.Compute k → a ≡ A.Transfer t → ⊥
-computes-not a k t e f = let z : ◌≡◌ {A = ℕ} 0 1 = cc in omega arith
-
-pub permutes-not : (a : Action) (p : Permute) (t : Transfer) → a ≡ A.Permute p → a ≡ A.Transfer t → ⊥
-permutes-not a p t e f = let z : ◌≡◌ {A = ℕ} 0 1 = cc in omega arith
-
 pub one-transfer : (a : Action) (t u : Transfer) → a ≡ A.Transfer t → a ≡ A.Transfer u → t ≡ u
 one-transfer a t u e f = cc
-
-pub of-transfer : (vlenb : ℕ) (file rights : List ℕ) (memory : ℕ) (v n m : ℕ) (masked : Bool) (r : Checked) (a : Action) (t u : Transfer)
-    → a ≡ A.Transfer t → a ≡ A.Transfer u → m ≡ n → Tested (active_of vlenb file masked) rights memory t v m r
-    → Tested (active_of vlenb file masked) rights memory u v n r
-of-transfer vlenb file rights memory v n m masked r a t u e f q h = rw (← q, ← one-transfer a t u e f) h
 
 -- ---- the plan of a unit-stride access
 

@@ -34,30 +34,15 @@ fn unit_stride_mode(mode: Mode, nf: u32) -> bool
 {
     match mode {
         Mode::UnitStride => nf == 0,
-        Mode::Strided(_) => false,
-        Mode::Indexed(_) => false,
-        Mode::MaskBytes => true,
-        Mode::Whole(_) => true,
+        Mode::Strided(_) | Mode::Indexed(_) => false,
+        Mode::MaskBytes | Mode::Whole(_) => true,
     }
 }
 
 fn is_unit_stride(instruction: Instruction) -> bool
     ensures { result ≡ is_unit_stride instruction }
 {
-    match instruction {
-        Instruction::Illegal => false,
-        Instruction::Arithmetic(_) => false,
-        Instruction::Mask(_) => false,
-        Instruction::Reduction(_) => false,
-        Instruction::Permutation(_) => false,
-        Instruction::Pack(_) => false,
-        Instruction::ScalarMove(_) => false,
-        Instruction::Setting(_) => false,
-        Instruction::Memory(a) => {
-            let mode = a.mode;
-            unit_stride_mode(mode, a.nf)
-        }
-    }
+    matches!(instruction, Instruction::Memory(a) if unit_stride_mode(a.mode, a.nf))
 }
 
 // The elements of a legal plan that remain. One that computes or permutes is no access.
@@ -76,8 +61,7 @@ fn elements(
         (e.end - vstart) result }
 {
     match e.action {
-        Action::Compute(_) => nothing_tested(Answer::Illegal),
-        Action::Permute(_) => nothing_tested(Answer::Illegal),
+        Action::Compute(_) | Action::Permute(_) => nothing_tested(Answer::Illegal),
         Action::Transfer(t) => unit_stride::tested(
             board,
             registers,
@@ -127,8 +111,14 @@ pub fn check(
         unreachable!()
     };
     match legality::checked(hart, scalars, control, instruction) {
-        Plan::Illegal => nothing_tested(Answer::Illegal),
-        Plan::OneTurn(_) => nothing_tested(Answer::Illegal),
-        Plan::Elements(e) => elements(hart.board, registers, rights, memory.len(), control.vstart, e),
+        Plan::Illegal | Plan::OneTurn(_) => nothing_tested(Answer::Illegal),
+        Plan::Elements(e) => elements(
+            hart.board,
+            registers,
+            rights,
+            memory.len(),
+            control.vstart,
+            e,
+        ),
     }
 }

@@ -2,7 +2,7 @@
 use Rattle.std.specs.Prelude.{Ok}
 use Prim.Native.Nat.{ℕ, zero, suc, ◌+◌, ◌-◌, ◌*◌, ◌/◌, ◌%◌, ◌≤◌, ◌<◌}
 use mathlib.Core.Path.{◌≡◌, refl, sym, ap, subst, ◌∙◌}
-use mathlib.Core.Bool.{Bool, true, false, not, ◌&&◌, ◌||◌, cond, and_assoc}
+use mathlib.Core.Bool.{Bool, true, false, not, cond}
 use mathlib.Core.List.{List}
 use native.Mathlib.Nat.{add-zero, add-suc}
 use native.Mathlib.Omega.{arith}
@@ -14,7 +14,7 @@ use Rattle.std.proofs.lemmas.List.{get_or-drop, length-drop, take-take}
 use Rattle.std.proofs.lemmas.List.Edits.{length-between, paste_none}
 use Rattle.std.proofs.lemmas.Slice.{put_mid-paste}
 use lib.Dec.{T, eqb}
-use borrow.Author.Tests.{eqb-true, eqb-false, not-true, not-false}
+use borrow.Author.Tests.{eqb-true, not-true}
 use Rattle.laws.proofs.Apart.{both_left, both_right}
 use Rattle.answer.specs.declared.Answer.{Answer}
 use Rattle.answer.specs.declared.Answer.TheVariants.{Finished}
@@ -86,10 +86,6 @@ module _ (to : List ℕ) (at : ℕ) (from : List ℕ) (a : ℕ) where
   copied-element f n j = let e : suc j * n ≡ j * n + n = omega arith in ap (copied to at from a) e ∙ copied_more f n (j * n)
 
 -- ---- tests
-
-pub ordered : (e : Elementwise) (t : Transfer) (x : ℕ) → e.vs2 ≡ R.Constant x
-    → (((eqb x 0 && not e.masked) && eqb t.stride t.bytes) && eqb e.dest.nf 0) ≡ in_order_of e t
-ordered e t x q = rw q (simp and_assoc)
 
 -- a fault's answer is a trap
 finished-never : (a : Answer) → a ≡ Finished → trap_only a ≡ true → ⊥
@@ -208,21 +204,17 @@ module _ (b : Board) (rights file memory file' memory' : List ℕ) (e : Elementw
 
 -- ---- all elements
 
-goes_on : (none ordered : Bool) → (none || not ordered) ≡ false → (none ≡ false) × (ordered ≡ true)
-goes_on true ordered h = absurd (subst T h tt)
-goes_on false ordered h = (refl, not-false ordered h)
-
 -- the index of element v in the registers
 abbrev place_of : Board → Elementwise → Transfer → ℕ → ℕ
 place_of b e t v = b.vlenb * e.dest.reg + v * t.bytes
 
 module _ (b : Board) (size memory : ℕ) (e : Elementwise) (t : Transfer) (v n : ℕ)
-    (g : Copyable b size memory e t v n) (i : Bool) (k : i ≡ in_order_of e t) (h : (eqb n 0 || not i) ≡ false) where
+    (g : Copyable b size memory e t v n) (k : true ≡ in_order_of e t) (d : n ≡ 0 → ⊥) where
   are-ordered : Ordered e t
-  are-ordered = in_order e t (sym k ∙ (goes_on (eqb n 0) i h).1)
+  are-ordered = in_order e t (sym k)
 
   some : 1 ≤ n
-  some = let z : n ≡ 0 → ⊥ = eqb-false n 0 (goes_on (eqb n 0) i h).0 in omega arith
+  some = omega (arith, d)
 
   pub is-packed : Packed memory t v n
   is-packed = record {
@@ -241,17 +233,17 @@ module _ (b : Board) (size memory : ℕ) (e : Elementwise) (t : Transfer) (v n :
       let all : n ≡ suc (n - 1) = omega (arith, some) in
       rw all (omega arith)
 
-  module _ (rights : List ℕ) (a : ℕ) (p : a ≡ element_address t v 0) (r : Bool) (y : AllGranted rights memory t v n r) (u : r ≡ true) where
+  module _ (rights : List ℕ) (a : ℕ) (p : a ≡ element_address t v 0) (y : AllGranted rights memory t v n true) where
     begins : a + t.bytes ≤ memory
     begins =
-        rw p (rw (add-zero v) at (granted-facts rights memory t.store (element_address t (v + 0) 0) t.bytes (y.each u 0 some)).inside)
+        rw p (rw (add-zero v) at (granted-facts rights memory t.store (element_address t (v + 0) 0) t.bytes (y.each refl 0 some)).inside)
 
     address : (j : ℕ) → j < n → a + j * t.bytes ≡ element_address t (v + j) 0
     address j l =
         rw p (sym (onward memory t v n is-packed v j (omega (arith, g.few)) (rw (← p) (omega (arith, begins)))))
 
     element-granted : (j : ℕ) → j < n → access_of rights memory t.store (a + j * t.bytes) t.bytes ≡ Ok tt
-    element-granted j l = rw (address j l) (y.each u j l)
+    element-granted j l = rw (address j l) (y.each refl j l)
 
     pub memory-room : a + n * t.bytes ≤ memory
     memory-room =
@@ -264,8 +256,8 @@ module _ (b : Board) (size memory : ℕ) (e : Elementwise) (t : Transfer) (v n :
 -- ---- the copy moves them
 
 module _ (b : Board) (rights file memory : List ℕ) (e : Elementwise) (t : Transfer) (v n : ℕ)
-    (g : Copyable b (length file) (length memory) e t v n) (i : Bool) (k : i ≡ in_order_of e t) (h : (eqb n 0 || not i) ≡ false)
-    (a : ℕ) (p : a ≡ element_address t v 0) (r : Bool) (y : AllGranted rights (length memory) t v n r) (u : r ≡ true)
+    (g : Copyable b (length file) (length memory) e t v n) (k : true ≡ in_order_of e t) (d : n ≡ 0 → ⊥)
+    (a : ℕ) (p : a ≡ element_address t v 0) (y : AllGranted rights (length memory) t v n true)
     (w : Bytes file) (z : Bytes memory) (x : List ℕ) (c : Control) where
   abbrev at : ℕ
   at = place_of b e t v
@@ -279,10 +271,10 @@ module _ (b : Board) (rights file memory : List ℕ) (e : Elementwise) (t : Tran
       subst (Ran b rights e v (core_at file memory x c) 0) (sym (rw nil (nothing-moved file memory at a t.store x c))) none
   ran (suc j) l =
       more j (after j) (after (suc j)) (ran j (omega arith))
-      (element-moved b rights _ _ _ _ e t (are-ordered b (length file) (length memory) e t v n g i k h) g.action
+      (element-moved b rights _ _ _ _ e t (are-ordered b (length file) (length memory) e t v n g k d) g.action
       (rw same g.memory-length) (v + j) (a + j * t.bytes)
-      (address b (length file) (length memory) e t v n g i k h rights a p r y u j l)
-      (rw same (element-granted b (length file) (length memory) e t v n g i k h rights a p r y u j l))
+      (address b (length file) (length memory) e t v n g k d rights a p y j l)
+      (rw same (element-granted b (length file) (length memory) e t v n g k d rights a p y j l))
       (rw eew (file-next file memory at a b.vlenb e.dest.reg v t.bytes j refl t.store z))
       (rw eew (memory-next file memory at a b.vlenb e.dest.reg v t.bytes j refl t.store w)) x c)
     where

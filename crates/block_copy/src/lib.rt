@@ -24,12 +24,7 @@ fn copy(to: &mut [u8], at: usize, from: &[u8], a: usize, n: usize)
 fn in_order(e: Elementwise, t: Transfer) -> bool
     ensures { result ≡ in_order_of e t }
 {
-    let dest = e.dest;
-    let offset = e.vs2;
-    match offset {
-        Read::Constant(x) => { (x == 0) & !e.masked & (t.stride == t.bytes) & (dest.nf == 0) }
-        Read::Element(_) | Read::Bit(_) => false,
-    }
+    matches!(e.vs2, Read::Constant(0)) && !e.masked && t.stride == t.bytes && e.dest.nf == 0
 }
 
 // Whether none of the n elements from element v up faults.
@@ -38,11 +33,11 @@ fn granted(rights: &[u8; 256], memory: usize, t: Transfer, v: u64, n: u64) -> bo
     ensures { AllGranted rights.now memory t v n result }
 {
     let checked = unit_stride::unmasked(rights, memory, t, v, n);
-    let answer = checked.answer;
-    matches!(answer, Answer::Finished)
+    matches!(checked.answer, Answer::Finished)
 }
 
 // The n elements from element v up of a plan that loads or stores, where they can be moved as one copy: whether they can.
+// A bool and no Option or enum: no value stands beside it, and whatever the reason that it is false, the caller goes element by element.
 pub fn transferred(
     registers: &mut [u8],
     memory: &mut [u8],
@@ -57,7 +52,7 @@ pub fn transferred(
     ensures { (x : List ℕ) (c : Control) → Attempted board rights.now e v n
         (core_at registers.old memory.old x c) result (core_at registers.new memory.new x c) }
 {
-    if (n == 0) | !in_order(e, t) {
+    if n == 0 || !in_order(e, t) {
         return false;
     }
     if !granted(rights, memory.len(), t, v, n) {

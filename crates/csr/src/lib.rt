@@ -8,6 +8,24 @@ ghost use Rattle.csr.specs.Csr.{when_accessible, read_of, written_of};
 use answer::Answer;
 use control::{Control, Hart};
 
+// ---- the CSR numbers, by the standard's names
+
+pub const VSTART: u64 = 0x008;
+
+pub const VXSAT: u64 = 0x009;
+
+pub const VXRM: u64 = 0x00A;
+
+pub const VCSR: u64 = 0x00F;
+
+pub const VL: u64 = 0xC20;
+
+pub const VTYPE: u64 = 0xC21;
+
+pub const VLENB: u64 = 0xC22;
+
+// ---- reads and writes
+
 // Whether a CSR of the record may be read or written at all: it can be, and VS is not Off.
 fn accessible(hart: Hart, control: Control) -> Result<(), Answer>
     ensures { result ≡ when_accessible hart.board control (Ok tt) }
@@ -27,13 +45,13 @@ pub fn read(hart: Hart, control: Control, csr: u64) -> Result<u64, Answer>
 {
     accessible(hart, control)?;
     match csr {
-        0x008 => Ok(control.vstart),
-        0x009 => Ok(control.vxsat),
-        0x00A => Ok(control.vxrm),
-        0x00F => Ok(2 * control.vxrm + control.vxsat),
-        0xC20 => Ok(control.vl),
-        0xC21 => Ok(control.vtype),
-        0xC22 => Ok(u64::from(hart.board.vlenb)),
+        VSTART => Ok(control.vstart),
+        VXSAT => Ok(control.vxsat),
+        VXRM => Ok(control.vxrm),
+        VCSR => Ok(2 * control.vxrm + control.vxsat),
+        VL => Ok(control.vl),
+        VTYPE => Ok(control.vtype),
+        VLENB => Ok(u64::from(hart.board.vlenb)),
         _ => Err(Answer::Illegal),
     }
 }
@@ -45,10 +63,10 @@ pub fn write(hart: Hart, control: Control, csr: u64, value: u64) -> Result<Contr
     accessible(hart, control)?;
     let next = control.dirtied();
     match csr {
-        0x008 => Ok(next.with_vstart(value % (8 * u64::from(hart.board.vlenb)))),
-        0x009 => Ok(next.with_vxsat(value % 2)),
-        0x00A => Ok(next.with_vxrm(value % 4)),
-        0x00F => Ok(next.with_vxrm(value / 2 % 4).with_vxsat(value % 2)),
+        VSTART => Ok(next.with_vstart(value % (8 * u64::from(hart.board.vlenb)))),
+        VXSAT => Ok(next.with_vxsat(value % 2)),
+        VXRM => Ok(next.with_vxrm(value % 4)),
+        VCSR => Ok(next.with_vxrm(value / 2 % 4).with_vxsat(value % 2)),
         _ => Err(Answer::Illegal),
     }
 }

@@ -7,18 +7,19 @@ ghost use Rattle.csr.specs.Csr.{written_of, record_after, outcome};
 
 use answer::Answer;
 use control::{Control, Hart};
+use csr::{VSTART, VXRM, VXSAT};
 
-// The record is lent, and one field of it is stored to (0x00F: two), and VS.
+// The record is lent, and one field of it is stored to (of vcsr two), and VS.
 pub fn write(hart: Hart, control: &mut Control, csr: u64, value: u64) -> Result<(), Answer>
     ensures answered { result ≡ outcome (written_of hart.board control.old csr value) }
     ensures stored { control.new ≡ record_after control.old (written_of hart.board control.old csr value) }
 {
     let next = csr::write(hart, *control, csr, value)?;
     match csr {
-        0x008 => control.vstart = next.vstart,
-        0x009 => control.vxsat = next.vxsat,
-        0x00A => control.vxrm = next.vxrm,
-        // 0x00F, as no other number is written
+        VSTART => control.vstart = next.vstart,
+        VXSAT => control.vxsat = next.vxsat,
+        VXRM => control.vxrm = next.vxrm,
+        // vcsr, as no other CSR is written
         _ => {
             control.vxrm = next.vxrm;
             control.vxsat = next.vxsat;

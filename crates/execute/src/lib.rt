@@ -1,4 +1,5 @@
 // One element of an arithmetic or memory instruction, in place.
+// Registers and VLENB are no struct: tried, contracts are 18 % longer, as each that writes must say that the file is still the one lent.
 
 #![tactic(auto)]
 

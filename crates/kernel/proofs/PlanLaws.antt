@@ -1,11 +1,10 @@
 -- From a plan to the stretch by which a kernel runs it.
 use Prim.Native.Nat.{ℕ, ◌+◌, ◌-◌, ◌*◌, ◌/◌, ◌≤◌, ◌<◌}
 use mathlib.Core.Path.{◌≡◌, sym, refl, ap, subst, ◌∙◌}
-use mathlib.Core.Bool.{Bool, true, false, ◌||◌}
+use mathlib.Core.Bool.{true, false}
 use mathlib.Core.List.{List}
 use native.Mathlib.Omega.{arith}
-use lib.Dec.{T, leb}
-use borrow.Author.Tests.{leb-false}
+use lib.Dec.{T}
 use Rattle.fixed.specs.declared.Vxrm.TheVariants.{Rnu}
 use Rattle.operation.specs.declared.Op.{Op}
 use Rattle.alu.specs.Element.{element_of}
@@ -67,15 +66,8 @@ same-lane : (w w' a a' b b' d : ℕ) (o o' : Op) → w ≡ w' → a ≡ a' → b
     → element_of w Rnu a b d 0 o ≡ element_of w' Rnu a' b' d 0 o'
 same-lane w w' a a' b b' d o o' e f g h = rw (e, f, g, h)
 
-neither : (p q : Bool) → (p || q) ≡ false → (p ≡ false) × (q ≡ false)
-neither false q h = (refl, h)
-neither true q h = absurd (subst T h tt)
-
 module _ (size vlenb : ℕ) (e : Elementwise) (k : Compute) (from end : ℕ) (h : Computable size vlenb e k from end)
-    (t : (e.masked || leb end from) ≡ false) where
-  some : from < end
-  some = leb-false end from (neither e.masked _ t).1
-
+    (unmasked : e.masked ≡ false) (some : from < end) where
   abbrev n : ℕ
   n = k.sew / 8
 
@@ -156,7 +148,7 @@ module _ (size vlenb : ℕ) (e : Elementwise) (k : Compute) (from end : ℕ) (h 
         done _ (w.ran b e (rw z (record {
           compute = k;
           action = h.action;
-          unmasked = (neither e.masked _ t).0;
+          unmasked = unmasked;
           dest = refl;
           eew = single.dest ∙ in_bytes;
           element = lane;

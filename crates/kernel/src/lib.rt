@@ -1,5 +1,6 @@
 // Loops over the elements of a stretch that the compiler makes vector code of: seven operations, without a mask. There is one loop for each
 // operation and size of an element; the second operand's source stays the same in it, so the compiler asks for that before the loop.
+// Registers and VLENB are no struct: tried, contracts are 18 % longer, as each that writes must say that the file is still the one lent.
 
 #![tactic(auto)]
 
@@ -38,6 +39,8 @@ struct Stretch {
 }
 
 // ---- the operations
+
+// No one list serves all: nothing loops over types, the gate refuses an `impl` that a macro writes, and one match is slower (`kernel_of`).
 
 // Those that have a kernel.
 #[derive(Clone, Copy)]
@@ -235,6 +238,7 @@ fn source_of(read: Read, vlenb: usize) -> Source
 }
 
 // The elements from `from` to `end` of a plan that computes, where there is a kernel for it: whether there is.
+// A bool and no Option or enum: no value stands beside it, and whatever the reason that it is false, the caller goes element by element.
 pub fn computed(
     registers: &mut [u8],
     board: Board,
@@ -247,7 +251,7 @@ pub fn computed(
     ensures { (rights memory x : List ℕ) (c : Control) → Attempted board rights e from (end - from)
         (core_at registers.old memory x c) result (core_at registers.new memory x c) }
 {
-    if e.masked | (end <= from) {
+    if e.masked || end <= from {
         return false;
     }
     let Some(o) = kernel_of(k.op) else {

@@ -1,4 +1,5 @@
 // Elements in the lent bytes: numbers of 1, 2, 4 or 8 bytes, mask bits, and the elements of the register file.
+// Registers and VLENB are no struct: tried, contracts are 18 % longer, as each that writes must say that the file is still the one lent.
 
 #![tactic(auto)]
 

@@ -1,14 +1,17 @@
 -- Bits of mask registers: where they lie, the population and the first as far as a loop has come, and the bits set in place.
 use Prim.Native.Nat.{ℕ, zero, suc, ◌+◌, ◌-◌, ◌*◌, ◌≤◌, ◌<◌}
 use mathlib.Core.Path.{◌≡◌, refl, ap, ◌∙◌}
-use mathlib.Core.Logic.{inr}
+use mathlib.Core.Logic.{inr, ⊎_elim}
 use mathlib.Core.Bool.{Bool, true, false, not, ◌||◌, cond}
 use mathlib.Core.List.{List}
 use native.Mathlib.Numerals.{add-one}
 use native.Mathlib.Nat.{mul-le-mul_right}
 use native.Mathlib.Omega.{arith}
 use lib.ListN.{length}
-use lib.Dec.{T, eqb}
+use lib.Dec.{T, eqb, ltb}
+use borrow.Author.Tests.{lt-ltb, le-ltb}
+use Rattle.std.proofs.lemmas.Bool.{cases_lt}
+use Rattle.std.specs.Prelude.{Option, Some, None, unwrap_or}
 use Rattle.width.specs.Width.{flag}
 use Rattle.decode.specs.declared.MaskInstruction.{MaskInstruction}
 use Rattle.layout.specs.Layout.{with_element}
@@ -42,19 +45,39 @@ module _ (vlenb : ℕ) (file : List ℕ) (masked : Bool) (reg i vl r : ℕ) (e :
       let s : vl - i ≡ suc (vl - suc i) = omega arith in
       rw (add-one i) (rw s at e)
 
-  pub first-here : i < vl → (t : Bool) → t ≡ set_at vlenb file masked reg i → t ≡ true → i ≡ r
-  first-here l t h k = rw (← h, k) at (first_next l)
+  pub first-here : i < vl → (t : Bool) → t ≡ set_at vlenb file masked reg i → t ≡ true → Some i ≡ cond (ltb r vl) (Some r) None
+  first-here l t h k = let q : i ≡ r = rw (← h, k) at (first_next l) in rw (← q, lt-ltb i vl l)
 
   pub first_more : i < vl → (t : Bool) → t ≡ set_at vlenb file masked reg i → t ≡ false
       → first_of vlenb file masked reg (i + 1) (vl - (i + 1)) ≡ r
   first_more l t h k = rw (← h, k) at (first_next l)
 
-  pub first-none : i ≤ vl → vl ≤ i → vl ≡ r
+  pub first-none : i ≤ vl → vl ≤ i → None ≡ cond (ltb r vl) (Some r) None
   unfolding first_of
   first-none p q =
       let s : vl - i ≡ 0 = omega arith in
-      let u : vl ≡ i = omega arith in
-      u ∙ (rw s at e)
+      let u : i ≡ r = rw s at e in
+      rw (← u, le-ltb i vl q)
+
+-- where none of n is, i + n stands for it
+first-most : (vlenb : ℕ) (file : List ℕ) (masked : Bool) (reg i n : ℕ) → first_of vlenb file masked reg i n ≤ i + n
+unfolding first_of
+first-most vlenb file masked reg i zero = omega arith
+first-most vlenb file masked reg i (suc n) =
+    at-first (set_at vlenb file masked reg i) (first_of vlenb file masked reg (suc i) n) (first-most vlenb file masked reg (suc i) n)
+  where
+    at-first : (t : Bool) (f : ℕ) → f ≤ suc i + n → cond t i f ≤ i + suc n
+    at-first true f h = omega arith
+    at-first false f h = omega arith
+
+module _ (vlenb : ℕ) (file : List ℕ) (masked : Bool) (reg vl : ℕ) where
+  abbrev r : ℕ
+  r = first_of vlenb file masked reg 0 vl
+
+  pub first-or-end : (f : ℕ) (found : Option ℕ) → found ≡ cond (ltb r vl) (Some r) None → f ≡ unwrap_or found vl → f ≡ r
+  first-or-end f found p q =
+      q ∙ rw p (⊎_elim (λ l. rw (lt-ltb r vl l) refl)
+      (λ l. rw (le-ltb r vl l) (omega (arith, first-most vlenb file masked reg 0 vl))) (cases_lt r vl))
 
 -- ---- bits set in place: the mask in v0 is read as it was
 

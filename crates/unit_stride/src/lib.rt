@@ -1,4 +1,5 @@
 // The elements of a unit-stride access, tested: by pages where there is no mask, one after the other where there is.
+// Registers and VLENB are no struct: tried, contracts are 18 % longer, as each that writes must say that the file is still the one lent.
 
 #![tactic(auto)]
 
@@ -42,7 +43,7 @@ impl Checked {
 // ---- unmasked: by pages
 
 // The first of the pages from `first` to `last` that lacks the right, or the page after them. At most two are asked for.
-// It is no Option, since `FirstClosed` (specs/Tested) speaks of the page after them.
+// By page number, which is what is asked for; no Option, since where none lacks it `FirstClosed` (specs/Tested) speaks of the page after.
 fn first_closed(rights: &[u8; 256], right: u8, first: u64, last: u64) -> u64
     requires { (first ≤ last) × ((last ≤ first + 1) × (last < 256)) }
     ensures { FirstClosed rights.now right first last result }

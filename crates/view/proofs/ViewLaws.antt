@@ -1,12 +1,12 @@
 -- A group has a register and lies within the file, on any board.
-use Prim.Native.Nat.{ℕ, ◌+◌, ◌*◌, ◌%◌, ◌≤◌, ◌<◌}
+use Prim.Native.Nat.{ℕ, ◌+◌, ◌*◌, ◌%◌, ◌≤◌}
 use mathlib.Core.List.{List}
 use mathlib.Core.Path.{◌≡◌, refl, sym, subst}
 use mathlib.Core.Bool.{Bool, true, false, not, ◌||◌, cond}
 use native.Mathlib.Nat.{mul-le-mul_right}
 use native.Mathlib.Omega.{arith}
 use borrow.Author.Tests.{eqb-true}
-use lib.Dec.{eqb, lit≤}
+use lib.Dec.{eqb}
 use lib.ListN.{length, length-drop}
 use lib.Seq.{length-take-le}
 use Rattle.laws.proofs.Apart.{apart}
@@ -29,9 +29,6 @@ sizes P n e p₁ p₂ p₄ p₈ =
   where
     is : (k : ℕ) → P k → eqb n k ≡ true → P n
     is k p h = rw (eqb-true n k h) p
-
-pub some : (n : ℕ) → (eqb n 1 || eqb n 2 || eqb n 4 || eqb n 8) ≡ true → 0 < n
-some n e = sizes (λ k. 0 < k) n e (lit≤ tt) (lit≤ tt) (lit≤ tt) (lit≤ tt)
 
 -- the registers of a group are among the 32
 pub within : (f n : ℕ) → is_group_of f n ≡ true → f + n ≤ 32

@@ -17,13 +17,11 @@ pub struct ViewPlace {
 }
 
 // Whether there is such a group.
+#[tactic(auto, unfolding(crate::specs::View::is_group_of))]
 fn is_group(first: usize, count: usize) -> bool
     ensures { result ≡ is_group_of first count }
 {
-    if (count == 1) | (count == 2) | (count == 4) | (count == 8) {
-        return (first <= 31) & (first % count == 0);
-    }
-    false
+    matches!(count, 1 | 2 | 4 | 8) && first <= 31 && first % count == 0
 }
 
 // The place of a group on a board, in a file of so many bytes, or the answer that refuses it.

@@ -1,3 +1,4 @@
+use mathlib.Core.Logic.{⊎_elim}
 use Rattle.control.proofs.Laws.{valid}
 use Rattle.turn.proofs.Turns.{accepted-scalars, accepted-rights, accepted-sew, accepted-vl, decoded-fits}
 use Rattle.access_check.proofs.WordLaws.{refused-word, other_word, illegal-word, no-one-turn, elements-ready, elements-word}
@@ -24,10 +25,9 @@ elements-requires c = elements-ready _ _ c.args.registers.now _ c.args.memory.no
     (rw c.in-Ok.ensures.1.same at c.checked.ensures) _ (valid c.args.hart) c.in-Elements.is
 
 pub returns-in-Illegal : goal.returns-in-Illegal
-returns-in-Illegal c = let checked = rw c.in-Ok.ensures.1.same at c.checked.ensures in search illegal-word
-
-pub returns-in-OneTurn : goal.returns-in-OneTurn
-returns-in-OneTurn c = let checked = rw c.in-Ok.ensures.1.same at c.checked.ensures in search (no-one-turn, decoded-fits, valid)
+returns-in-Illegal c =
+    let checked = rw c.in-Ok.ensures.1.same at c.checked.ensures in
+    ⊎_elim (λ e. search illegal-word) (λ f. let taken = f.1 in search (no-one-turn, decoded-fits, valid)) c.in-Illegal.is
 
 pub returns-in-Elements : goal.returns-in-Elements
 returns-in-Elements c = elements-word _ _ _ _ _ _ _ _ _ _ c.refusal-refused.ensures c.in_default.is
