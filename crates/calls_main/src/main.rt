@@ -7,21 +7,43 @@
 #![tactic(auto)]
 
 use answer::Answer;
+use case_lines::next_bytes;
 use control::{Control, Hart};
-use std::array;
-use std::io::{self, BufReader, BufWriter, Write};
+use std::io::{self, BufReader, LineWriter, Read, Write};
+use std::{array, iter};
 use view::ViewPlace;
 
-// The bytes of a line, with its newline.
-const LINE: usize = 130;
+// ---- lines
 
-// No more lines are read.
-const LINES: usize = 1_000_000;
+// The numbers of a line, and its newline.
+type Numbers = [u8; 129];
+
+// A line, by its letter: the board of a call, and what follows the letter.
+#[derive(Clone, Copy)]
+enum Line {
+    Read(Hart, Numbers),
+    Write(Hart, Numbers),
+    View(Hart, Numbers),
+}
+
+// The next line; none at the end of the input, in a line or before one, and where a letter is none of these.
+fn next_line(input: &mut impl Read) -> Option<Line> {
+    let [letter]: [u8; 1] = next_bytes(input)?;
+    Some(match letter {
+        b'r' => Line::Read(Hart::BASE, next_bytes(input)?),
+        b'w' => Line::Write(Hart::BASE, next_bytes(input)?),
+        b'v' => Line::View(Hart::BASE, next_bytes(input)?),
+        b'R' => Line::Read(Hart::SMALL, next_bytes(input)?),
+        b'W' => Line::Write(Hart::SMALL, next_bytes(input)?),
+        b'V' => Line::View(Hart::SMALL, next_bytes(input)?),
+        _ => return None,
+    })
+}
 
 // ---- CSR numbers
 
 fn control_of(line: &[u8]) -> Control {
-    case_lines::control_at(line, 33)
+    case_lines::control_at(line, 32)
 }
 
 fn print_written(output: &mut impl Write, answer: Answer, control: Control) -> io::Result<()> {
@@ -32,7 +54,7 @@ fn print_written(output: &mut impl Write, answer: Answer, control: Control) -> i
 
 // The value of a read is 0 beside a refusal.
 fn read(output: &mut impl Write, hart: Hart, line: &[u8]) -> io::Result<()> {
-    let csr = hexadecimal::number(line, 1, 16);
+    let csr = hexadecimal::number(line, 0, 16);
     let (answer, value) = match csr::read(hart, control_of(line), csr) {
         Ok(value) => (Answer::Finished, value),
         Err(refused) => (refused, 0),
@@ -43,8 +65,8 @@ fn read(output: &mut impl Write, hart: Hart, line: &[u8]) -> io::Result<()> {
 // The record of a write is as before beside a refusal.
 fn write(output: &mut impl Write, hart: Hart, line: &[u8]) -> io::Result<()> {
     let control = control_of(line);
-    let csr = hexadecimal::number(line, 1, 16);
-    let value = hexadecimal::number(line, 17, 16);
+    let csr = hexadecimal::number(line, 0, 16);
+    let value = hexadecimal::number(line, 16, 16);
     let mut lent = control;
     let answer = match csr_field::write(hart, &mut lent, csr, value) {
         Ok(()) => Answer::Finished,
@@ -106,35 +128,33 @@ fn view(
 
 // The views of a file of the length in a line, at most the room that there is.
 fn views(output: &mut impl Write, hart: Hart, line: &[u8], file: &[u8]) -> io::Result<()> {
-    let n = file.len().min(hexadecimal::number(line, 1, 16) as usize);
-    let first = hexadecimal::number(line, 17, 16) as usize;
-    let count = hexadecimal::number(line, 33, 16) as usize;
+    let n = file.len().min(hexadecimal::number(line, 0, 16) as usize);
+    let first = hexadecimal::number(line, 16, 16) as usize;
+    let count = hexadecimal::number(line, 32, 16) as usize;
     view_with(output, hart, &file[..n], first, count)?;
     view(output, hart, &file[..n], first, count)
 }
 
 // ---- the whole
 
+// The calls of a line.
+fn follow(output: &mut impl Write, line: Line, file: &[u8]) -> io::Result<()> {
+    match line {
+        Line::Read(hart, numbers) => read(output, hart, &numbers),
+        Line::Write(hart, numbers) => write(output, hart, &numbers),
+        Line::View(hart, numbers) => views(output, hart, &numbers, file),
+    }
+}
+
+// The loop is short, and stands in each program that runs cases: a function for all of them would take its two calls as closures.
 fn main(rt: HostRuntime) -> io::Result<()> {
     let alloc = rt.alloc();
     let mut input = BufReader::new(alloc, rt.reader())?;
-    let mut output = BufWriter::new(alloc, io::writer(&rt))?;
+    let mut output = LineWriter::new(alloc, io::writer(&rt))?;
     let file: [u8; 1024] = array::from_fn(file_byte);
-    for _ in 0..LINES {
-        let Some(line) = case_lines::next_bytes::<LINE, _>(&mut input) else {
-            break;
-        };
-        match line[0] {
-            b'r' => read(&mut output, Hart::BASE, &line)?,
-            b'w' => write(&mut output, Hart::BASE, &line)?,
-            b'v' => views(&mut output, Hart::BASE, &line, &file)?,
-            b'R' => read(&mut output, Hart::SMALL, &line)?,
-            b'W' => write(&mut output, Hart::SMALL, &line)?,
-            b'V' => views(&mut output, Hart::SMALL, &line, &file)?,
-            _ => break,
-        }
-        // what is said of this line stands in the output before the next is read
-        output.flush()?;
+    for line in iter::from_fn(|| next_line(&mut input)).take(case_lines::MOST_LINES) {
+        // a write that fails is passed over
+        let _ = follow(&mut output, line, &file);
     }
     Ok(())
 }

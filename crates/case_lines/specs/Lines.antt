@@ -1,6 +1,6 @@
 -- For contracts of inner functions, not to be believed: the numbers of a line that a program reads or prints for a case. It says nothing
 -- of the machine.
-use Rattle.std.specs.Prelude.{ℕ, ◌+◌, List, [], ◌∷◌, ◌++◌, get_or, drop}
+use Rattle.std.specs.Prelude.{ℕ, zero, suc, ◌+◌, ◌-◌, List, [], ◌∷◌, ◌++◌, get_or, length, take, drop, replicate, min, cond, ltb}
 use Rattle.hexadecimal.specs.Hexadecimal.{number_at}
 use Rattle.text.specs.Text.{short_hex, decimal}
 use Rattle.control.specs.declared.Control.{Control}
@@ -17,6 +17,19 @@ control_at s at =
     ∷ number_at s (at + 64) 16
     ∷ number_at s (at + 80) 16
     ∷ [])
+
+-- a list in which x stands from index `first` to before `end`, as far as the list goes
+abbrev pub with_range : List ℕ → ℕ → ℕ → ℕ → List ℕ
+with_range l first end x =
+    cond
+    (ltb first (min (length l) end))
+    (take first l ++ (replicate (min (length l) end - first) x ++ drop (min (length l) end) l))
+    l
+
+-- the n bytes from index `at` of a line, of two digits each
+unfoldable pub bytes_at : List ℕ → ℕ → ℕ → List ℕ
+bytes_at s at zero = []
+bytes_at s at (suc n) = number_at s at 2 ∷ bytes_at s (at + 2) n
 
 -- each number in decimal, after a space
 abbrev pub spaced : List ℕ → List ℕ

@@ -4,13 +4,16 @@
 
 ghost use Rattle.std.specs.Prelude.{◌≡◌, ◌+◌, ◌*◌, ◌≤◌, ◌^◌, length, set};
 ghost use Rattle.hexadecimal.specs.Hexadecimal.{number_at};
-ghost use Rattle.text.specs.Text.{Wrote, Adds};
-ghost use Rattle.case_lines.specs.Lines.{control_at, spaced, control_text};
+ghost use Rattle.text.specs.Text.{over, Wrote, Adds};
+ghost use Rattle.case_lines.specs.Lines.{control_at, with_range, bytes_at, spaced, control_text};
 ghost use Rattle.std.specs.Prelude.{IfSome, OnOk};
 ghost use Rattle.std.specs.Io.KnownBytes.{Consumes, Appends};
 
 use control::Control;
 use text::Text;
+
+// No program reads more lines, or runs more sheets.
+pub const MOST_LINES: usize = 1_000_000;
 
 // The control record: its fields from index `at` on, each in 16 hex digits.
 pub fn control_at(line: &[u8], at: u32) -> Control
@@ -36,6 +39,43 @@ pub fn set_scalar(scalars: &mut [u64], line: &[u8])
     if at < scalars.len() {
         scalars[at] = hexadecimal::number(line, 2, 16);
     }
+}
+
+// The right of a line in its pages: n digits of the first page, n of the last, and m of the right. Of pages past the rights it sets none.
+pub fn set_rights(rights: &mut [u8], line: &[u8], n: u32, m: u32)
+    requires { (n ≤ 8) × (m ≤ 2) }
+    ensures { rights.new ≡ with_range rights.old (number_at line.now 0 n) (number_at line.now n n + 1) (number_at line.now (2 * n) m) }
+{
+    let first = hexadecimal::number(line, 0, n) as usize;
+    let last = hexadecimal::number(line, n, n) as usize;
+    let right = hexadecimal::number(line, 2 * n, m) as u8;
+    let end = rights.len().min(last + 1);
+    if first < end {
+        rights[first..end].fill(right);
+    }
+}
+
+// The n bytes from index `at` of a line, of two digits each.
+fn put_bytes(bytes: &mut Text, line: &[u8], at: u32, n: u32)
+    requires { (bytes.old.at ≤ 2 ^ 31) × (at ≤ 2 ^ 31) × (n ≤ 255) }
+    ensures { Adds bytes.old (bytes_at line.now at n) bytes.new }
+{
+    for k in 0..n {
+        bytes.put(&[hexadecimal::number(line, at + 2 * k, 2) as u8]);
+    }
+}
+
+// The bytes of a line, from an index of `bytes` on: two digits of how many from index `at`, and then they. Bytes past the end are left out.
+pub fn set_bytes(bytes: &mut [u8], first: usize, line: &[u8], at: u32)
+    requires { (first ≤ 2 ^ 31) × (at ≤ 2 ^ 30) }
+    ensures { bytes.new ≡ over bytes.old first (bytes_at line.now (at + 2) (number_at line.now at 2)) }
+{
+    let n = hexadecimal::number(line, at, 2) as u32;
+    let mut text = Text {
+        out: bytes,
+        at: first,
+    };
+    put_bytes(&mut text, line, at + 2, n);
 }
 
 // The next bytes of the input; none where it ends before them, or is not to be read.

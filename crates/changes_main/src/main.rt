@@ -14,7 +14,8 @@ use answer::Answer;
 use case_lines::next_bytes;
 use control::{Control, Hart};
 use machine::Turned;
-use std::io::{self, BufReader, BufWriter, Read, Write};
+use std::io::{self, BufReader, LineWriter, Read, Write};
+use std::iter;
 
 const REGISTERS: usize = 512;
 
@@ -26,9 +27,6 @@ const PAGES: usize = 256;
 
 // An allowance that no instruction uses up.
 const UNCUT: u32 = 0xffff_ffff;
-
-// No more lines are read.
-const LINES: usize = 1_000_000;
 
 // ---- lines
 
@@ -69,12 +67,10 @@ fn next_line(input: &mut impl Read) -> Option<Line> {
     Some(line)
 }
 
+// The bytes of a line, from an index of five digits on.
 fn set_bytes(bytes: &mut [u8], line: &[u8]) {
     let first = hexadecimal::number(line, 0, 5) as usize;
-    let n = hexadecimal::number(line, 5, 2) as u8;
-    for (k, byte) in (0..n).zip(bytes.iter_mut().skip(first)) {
-        *byte = hexadecimal::number(line, 7 + 2 * u32::from(k), 2) as u8;
-    }
+    case_lines::set_bytes(bytes, first, line, 5);
 }
 
 // ---- a machine
@@ -133,12 +129,7 @@ impl Machine {
     }
 
     fn set_rights(&mut self, line: &[u8]) {
-        let first = hexadecimal::number(line, 0, 2) as usize;
-        let last = hexadecimal::number(line, 2, 2) as usize;
-        let right = hexadecimal::number(line, 4, 1) as u8;
-        for page in self.rights.iter_mut().take(last + 1).skip(first) {
-            *page = right;
-        }
+        case_lines::set_rights(&mut self.rights, line, 2, 1);
     }
 
     // A turn on a board.
@@ -264,18 +255,15 @@ impl Case {
 
 // ---- the whole
 
+// The loop is short, and stands in each program that runs cases: a function for all of them would take its two calls as closures.
 fn main(rt: HostRuntime) -> io::Result<()> {
     let alloc = rt.alloc();
     let mut input = BufReader::new(alloc, rt.reader())?;
-    let mut output = BufWriter::new(alloc, io::writer(&rt))?;
+    let mut output = LineWriter::new(alloc, io::writer(&rt))?;
     let mut case = Case::new(Hart::BASE, 0, Control::RESET);
-    for _ in 0..LINES {
-        let Some(line) = next_line(&mut input) else {
-            break;
-        };
-        case.follow(line, &mut output)?;
-        // what is said of this line stands in the output before the next is read
-        output.flush()?;
+    for line in iter::from_fn(|| next_line(&mut input)).take(case_lines::MOST_LINES) {
+        // a write that fails is passed over
+        let _ = case.follow(line, &mut output);
     }
     Ok(())
 }

@@ -9,14 +9,12 @@ ghost use Rattle.operation.specs.Shape.{eew_of};
 use decode::Instruction;
 use fixed::{Element, Vxrm};
 use operation::{Op, Size};
-use std::io::{self, BufReader, BufWriter, Write};
+use std::io::{self, BufReader, LineWriter, Write};
+use std::iter;
 use width::Eew;
 
 // The bytes of a case, with its newline.
 const LINE: usize = 67;
-
-// No more cases are run.
-const CASES: usize = 1_000_000;
 
 // An operand cut to its width; 0 where the operation has none.
 fn cut(size: Size, sew: u64, x: u64) -> u64
@@ -61,17 +59,15 @@ fn print(output: &mut impl Write, outcome: Option<Element>) -> io::Result<()> {
     }
 }
 
+// The loop is short, and stands in each program that runs cases: a function for all of them would take its two calls as closures.
 fn main(rt: HostRuntime) -> io::Result<()> {
     let alloc = rt.alloc();
     let mut input = BufReader::new(alloc, rt.reader())?;
-    let mut output = BufWriter::new(alloc, io::writer(&rt))?;
-    for _ in 0..CASES {
-        let Some(line) = case_lines::next_bytes::<LINE, _>(&mut input) else {
-            break;
-        };
-        print(&mut output, outcome(&line))?;
-        // what is said of this line stands in the output before the next is read
-        output.flush()?;
+    let mut output = LineWriter::new(alloc, io::writer(&rt))?;
+    let lines = iter::from_fn(|| case_lines::next_bytes::<LINE, _>(&mut input));
+    for line in lines.take(case_lines::MOST_LINES) {
+        // a write that fails is passed over
+        let _ = print(&mut output, outcome(&line));
     }
     Ok(())
 }

@@ -6,7 +6,7 @@
 ghost use Rattle.std.specs.Prelude.{◌≡◌, length};
 ghost use Rattle.sheet.specs.Bounds.{sheet_bound};
 
-use std::io::{self, Read, Write};
+use std::io::{self, ErrorKind, Read, Write};
 
 // Bytes read at most.
 const INPUT: u64 = 1000;
@@ -18,17 +18,21 @@ fn room() -> [u8; sheet::SHEET_MAX]
     [0; sheet::SHEET_MAX]
 }
 
-// What a sheet prints.
-fn print(output: &mut impl Write, sheet: &[u8], out: &mut [u8]) -> io::Result<()> {
+// What a sheet prints. A write that fails is passed over.
+fn print(output: &mut impl Write, sheet: &[u8], out: &mut [u8]) {
     let n = sheet::run(sheet, out);
     let k = n.min(out.len());
-    output.write_all(&out[..k])
+    let _ = output.write_all(&out[..k]);
 }
 
 fn main(rt: HostRuntime) -> io::Result<()> {
     let mut sheet = Vec::new(rt.alloc());
-    // a read that fails ends the sheet, as the end of the input does
-    let _ = rt.reader().take(INPUT).read_to_end(&mut sheet);
+    match rt.reader().take(INPUT).read_to_end(&mut sheet) {
+        Err(error) if error.kind() == ErrorKind::OutOfMemory => return Err(error),
+        // a read that fails ends the sheet, as the end of the input does
+        _ => {}
+    }
     let mut out = room();
-    print(&mut io::writer(&rt), &sheet, &mut out)
+    print(&mut io::writer(&rt), &sheet, &mut out);
+    Ok(())
 }
