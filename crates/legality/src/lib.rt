@@ -1,4 +1,6 @@
-// Whether a plan is legal: every rule of answer 2 that is not decode's.
+// Whether a plan is legal: every rule of answer 2 that is not decode's. `&` and `|` in `may_start`, `overlap_fits`, `read_fits`,
+// `operands_fit`, `elements_legal`, `mask_apart`, `reduction_placed`, `packing_placed`, `one_turn_legal` and `sources_fit` take both sides,
+// as the definitions do: they are on the path of each turn, and there is no branch.
 
 #![tactic(auto)]
 
