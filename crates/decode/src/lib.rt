@@ -192,7 +192,7 @@ pub enum Instruction {
     Memory(Access),
 }
 
-// What stands in the listing under a number. `Reserved` is one kind among twelve and no Option around the others, as definition `find` has it.
+// What stands in the listing under a number. `Reserved` is one kind among twelve and no Option around eleven, as definition `find` has it.
 #[derive(Clone, Copy)]
 pub enum Entry {
     Reserved,

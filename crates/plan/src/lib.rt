@@ -433,47 +433,27 @@ fn transferring(hart: Hart, x: &[u64; 32], control: Control, a: Access) -> Eleme
         }
         Mode::Strided(r) => {
             let group = groups_at(vtype, eew, a.vd, a.nf);
-            moving(
-                a,
-                true,
-                group,
-                plain,
-                Transfer {
-                    stride: scalar(x, r),
-                    ..t
-                },
-                vl,
-            )
+            let stride = scalar(x, r);
+            moving(a, true, group, plain, Transfer { stride, ..t }, vl)
         }
         Mode::Indexed(r) => {
             let sew = Control::sew(vtype);
             let offset = Read::Element(groups_at(vtype, eew, r, 0));
             let group = groups_at(vtype, sew, a.vd, a.nf);
-            moving(
-                a,
-                true,
-                group,
-                offset,
-                Transfer {
-                    stride: 0,
-                    bytes: sew / 8,
-                    ..t
-                },
-                vl,
-            )
+            let stride = 0;
+            let bytes = sew / 8;
+            moving(a, true, group, offset, Transfer { stride, bytes, ..t }, vl)
         }
         Mode::MaskBytes => {
             let group = register_at(8, a.vd);
+            let stride = 1;
+            let bytes = 1;
             moving(
                 a,
                 true,
                 group,
                 plain,
-                Transfer {
-                    stride: 1,
-                    bytes: 1,
-                    ..t
-                },
+                Transfer { stride, bytes, ..t },
                 (vl + 7) / 8,
             )
         }

@@ -14,8 +14,8 @@ overflow_mul-stride c = search segment-fits
 pub groups_at-group-requires : goal.groups_at-group-requires
 groups_at-group-requires c = search group-eew
 
-pub scalar-requires : goal.scalar-requires
-scalar-requires c = search (variant_fits ModeFits M.Strided)
+pub scalar-stride-requires : goal.scalar-stride-requires
+scalar-stride-requires c = search (variant_fits ModeFits M.Strided)
 
 pub groups_at-group-requires-in-Strided : goal.groups_at-group-requires-in-Strided
 groups_at-group-requires-in-Strided c = search group-eew
