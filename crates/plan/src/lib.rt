@@ -200,7 +200,7 @@ fn read_if(there: bool, read: Read) -> Read
     Read::Constant(0)
 }
 
-// What is read as a group to be written.
+// What is read as a group to be written. The first arm is that of the definition, and never used: every operation has a destination.
 fn group_of(read: Read) -> Group
     ensures { result ≡ group_of read }
 {
