@@ -49,6 +49,7 @@ pub struct Fault {
     pub place: FaultPlace,
 }
 
+// The definition's `fault_at`: the same literal in three returns of `access`.
 fn fault_at(answer: Answer, address: u64, wanted: Wanted) -> Result<(), Fault>
     ensures { result ≡ fault_at answer address wanted }
 {
@@ -56,14 +57,15 @@ fn fault_at(answer: Answer, address: u64, wanted: Wanted) -> Result<(), Fault>
     Err(Fault { answer, place })
 }
 
-// 4 or 6.
+// 4 or 6. One function for this and `denied_answer` would take an enum of the two, and a call a case of it where it has the name.
 pub fn misaligned_answer(store: bool) -> Answer
     ensures { result ≡ misaligned store }
 {
     if store {
-        return Answer::StoreMisaligned;
+        Answer::StoreMisaligned
+    } else {
+        Answer::LoadMisaligned
     }
-    Answer::LoadMisaligned
 }
 
 // 5 or 7.
@@ -71,9 +73,10 @@ pub fn denied_answer(store: bool) -> Answer
     ensures { result ≡ denied store }
 {
     if store {
-        return Answer::StoreAccess;
+        Answer::StoreAccess
+    } else {
+        Answer::LoadAccess
     }
-    Answer::LoadAccess
 }
 
 // The right that a page needs, 1 or 2: a number, since the caller lends the pages' rights as bytes (the C interface).

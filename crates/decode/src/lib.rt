@@ -192,7 +192,7 @@ pub enum Instruction {
     Memory(Access),
 }
 
-// What stands in the listing under a number.
+// What stands in the listing under a number. `Reserved` is one kind among twelve and no Option around eleven, as definition `find` has it.
 #[derive(Clone, Copy)]
 pub enum Entry {
     Reserved,
@@ -636,6 +636,7 @@ fn pack_of(op: PackOp, word: u32) -> Instruction
     Instruction::Illegal
 }
 
+// The same literal for both moves.
 fn move_by(op: ScalarMoveOp, vector: u32, scalar: u32) -> Instruction
     ensures { result ≡ Ins.ScalarMove (record { op = op; vector = vector; scalar = scalar }) }
 {
@@ -803,7 +804,7 @@ fn segment_of(store: bool, mode: Mode, word: u32) -> Option<Access>
 fn mask_of(store: bool, word: u32) -> Option<Access>
     ensures { accessing result ≡ sized word (mask_of store word) }
 {
-    if (vm(word) == 1) & (nf(word) == 0) & (funct3(word) == 0) {
+    if vm(word) == 1 && nf(word) == 0 && funct3(word) == 0 {
         return access_of(store, Mode::MaskBytes, 0, word);
     }
     None
@@ -813,7 +814,7 @@ fn mask_of(store: bool, word: u32) -> Option<Access>
 fn whole_count(nf: u32) -> bool
     ensures { result ≡ whole_count nf }
 {
-    (nf == 0) | (nf == 1) | (nf == 3) | (nf == 7)
+    matches!(nf, 0 | 1 | 3 | 7)
 }
 
 // Whole registers (section 8.9).
@@ -822,7 +823,7 @@ fn whole_of(store: bool, word: u32) -> Option<Access>
     ensures { accessing result ≡ sized word (whole_of store word) }
 {
     let nf = nf(word);
-    if (vm(word) == 1) & whole_count(nf) & (!store | (funct3(word) == 0)) {
+    if vm(word) == 1 && whole_count(nf) && (!store || funct3(word) == 0) {
         return access_of(store, Mode::Whole((nf + 1) as usize), 0, word);
     }
     None

@@ -1,7 +1,7 @@
 -- Legality, from what the code has worked out: one law for each way, over plain variables.
 use Prim.Native.Nat.{ℕ, ◌<◌}
 use mathlib.Core.Path.{◌≡◌, ◌∙◌, subst}
-use mathlib.Core.Bool.{Bool, true, false, not, ◌&&◌, ◌||◌}
+use mathlib.Core.Bool.{Bool, true, false, not, ◌&&◌, ◌||◌, and_assoc}
 use lib.Dec.{leb, eqb}
 use Rattle.laws.proofs.Apart.{both_left, both_right}
 use Rattle.laws.proofs.Chain.{case}
@@ -42,9 +42,9 @@ there-is a k n e h = case is_there a (A.Compute k) (leb k.sew n) e (rw h)
 
 module _ (b : Board) (c : Control) where
   pub elements-legal-is : (e : Elementwise) (start there fit : Bool) → start ≡ startable b c → there ≡ is_there e.action
-      → fit ≡ operands_fit b.elen e → ((not e.typed || start) && (there && fit)) ≡ elements_legal b c e
+      → fit ≡ operands_fit b.elen e → ((not e.typed || start) && there && fit) ≡ elements_legal b c e
   unfolding elements_legal
-  elements-legal-is e start there fit p q r = rw (p, q, r)
+  elements-legal-is e start there fit p q r = rw (p, q, r, and_assoc)
 
   -- ---- instructions that take one turn
 
@@ -54,8 +54,8 @@ module _ (b : Board) (c : Control) where
 
   -- and where v needs vstart 0 beside a rule of its own
   pub from-zero-by : (t v : OneTurn) (start fit rule : Bool) → t ≡ v → start ≡ startable b c → fit ≡ rule
-      → (startable b c && (eqb c.vstart 0 && rule)) ≡ one_turn_legal b c v → (start && (eqb c.vstart 0 && fit)) ≡ one_turn_legal b c t
-  from-zero-by t v start fit rule e p q h = one-turn-by t v (start && (eqb c.vstart 0 && fit)) e (rw (p, q) h)
+      → (startable b c && (eqb c.vstart 0 && rule)) ≡ one_turn_legal b c v → (start && eqb c.vstart 0 && fit) ≡ one_turn_legal b c t
+  from-zero-by t v start fit rule e p q h = one-turn-by t v (start && eqb c.vstart 0 && fit) e (rw (p, q, and_assoc) h)
 
   -- ---- every plan
 
@@ -100,6 +100,9 @@ module _ (b : Board) (c : Control) where
 
   pub checked-illegal : (p q : Plan) (t : Bool) → p ≡ q → t ≡ legal_of b c p → t ≡ false → P.Illegal ≡ checked_of b c q
   checked-illegal p q t e h k = rw (← e, ← h, k)
+
+pub four-are : (p q r s w x y z : Bool) → p ≡ w → q ≡ x → r ≡ y → s ≡ z → (p && q && r && s) ≡ (w && (x && (y && z)))
+four-are p q r s w x y z e f g h = rw (e, f, g, h, and_assoc, and_assoc)
 
 pub apart-is : (m : MaskInstruction) (w : Bool) → w ≡ writes_mask m.op
     → (not w || (not (eqb m.rd m.vs2) && (not m.masked || not (eqb m.rd 0)))) ≡ mask_apart m

@@ -1,4 +1,6 @@
-// Whether a plan is legal: every rule of answer 2 that is not decode's.
+// Whether a plan is legal: every rule of answer 2 that is not decode's. `&` and `|` in `may_start`, `overlap_fits`, `read_fits`,
+// `operands_fit`, `elements_legal`, `mask_apart`, `reduction_placed`, `packing_placed`, `one_turn_legal` and `sources_fit` take both sides,
+// as the definitions do: they are on the path of each turn, and there is no branch.
 
 #![tactic(auto)]
 
@@ -96,10 +98,10 @@ fn operands_fit(elen: usize, e: Elementwise) -> bool
     let writes = writes_registers(action);
     let strict = is_strict(action);
     ((dest.eew == 1) | group::placed(elen, dest))
-        & (read_fits(elen, writes, strict, dest, vs2)
-            & (read_fits(elen, writes, strict, dest, vs1)
-                & (read_fits(elen, writes, strict, dest, vd)
-                    & (!writes | group::spares_v0(e.masked | is_bit(v0), dest)))))
+        & read_fits(elen, writes, strict, dest, vs2)
+        & read_fits(elen, writes, strict, dest, vs1)
+        & read_fits(elen, writes, strict, dest, vd)
+        & (!writes | group::spares_v0(e.masked | is_bit(v0), dest))
 }
 
 // Whether an operation is there at its SEW.
@@ -118,7 +120,8 @@ fn elements_legal(hart: Hart, control: Control, e: Elementwise) -> bool
 {
     let action = e.action;
     (!e.typed | may_start(hart, control))
-        & (is_there(action) & operands_fit(hart.board.elen as usize, e))
+        & is_there(action)
+        & operands_fit(hart.board.elen as usize, e)
 }
 
 fn writes_mask(op: MaskOp) -> bool
@@ -153,8 +156,9 @@ fn packing_placed(elen: usize, p: Packing) -> bool
     let vd = p.vd;
     let elements = p.elements;
     group::placed(elen, vd)
-        & (read_fits(elen, true, true, vd, elements)
-            & (read_fits(elen, true, true, vd, Read::Bit(p.mask)) & group::spares_v0(p.masked, vd)))
+        & read_fits(elen, true, true, vd, elements)
+        & read_fits(elen, true, true, vd, Read::Bit(p.mask))
+        & group::spares_v0(p.masked, vd)
 }
 
 fn one_turn_legal(hart: Hart, control: Control, t: OneTurn) -> bool
@@ -163,14 +167,16 @@ fn one_turn_legal(hart: Hart, control: Control, t: OneTurn) -> bool
 {
     match t {
         OneTurn::Setting(_) => true,
-        OneTurn::Mask(m) => may_start(hart, control) & ((control.vstart == 0) & mask_apart(m)),
+        OneTurn::Mask(m) => may_start(hart, control) & (control.vstart == 0) & mask_apart(m),
         OneTurn::Reduction(r) => {
             may_start(hart, control)
-                & ((control.vstart == 0) & reduction_placed(hart.board.elen as usize, r))
+                & (control.vstart == 0)
+                & reduction_placed(hart.board.elen as usize, r)
         }
         OneTurn::Packing(p) => {
             may_start(hart, control)
-                & ((control.vstart == 0) & packing_placed(hart.board.elen as usize, p))
+                & (control.vstart == 0)
+                & packing_placed(hart.board.elen as usize, p)
         }
         OneTurn::ScalarMove(_) => may_start(hart, control),
     }
@@ -209,8 +215,12 @@ fn sources_fit(sources: Sources) -> bool
     let vs1 = sources.vs1;
     let vd = sources.vd;
     let v0 = sources.v0;
-    (pair_fits(vs2, vs1) & (pair_fits(vs2, vd) & pair_fits(vs1, vd)))
-        & (pair_fits(vs2, v0) & pair_fits(vs1, v0) & pair_fits(vd, v0))
+    pair_fits(vs2, vs1)
+        & pair_fits(vs2, vd)
+        & pair_fits(vs1, vd)
+        & pair_fits(vs2, v0)
+        & pair_fits(vs1, v0)
+        & pair_fits(vd, v0)
 }
 
 // Whether a plan is legal, but for what its sources share.

@@ -94,6 +94,7 @@ pub enum Op {
 }
 
 // An operand's EEW as a multiple of SEW: none, a mask bit, SEW/8 to 2*SEW.
+// `Absent` is a size and no None: `eew` (docs/READING) takes every size, and with None the table of shapes has `Some` at 30 places.
 #[derive(Clone, Copy)]
 pub enum Size {
     Absent,
@@ -201,7 +202,7 @@ impl Shape {
     }
 }
 
-// EEW at a SEW.
+// EEW at a SEW: 0 for none, as `eew_of` has it, by which `Operands` (alu/specs/Element, theorem `bounded`) has such an operand below 2 ^ 0.
 pub fn eew(size: Size, sew: u64) -> u64
     requires { sew ≤ 1024 }
     ensures { result ≡ eew_of size sew }

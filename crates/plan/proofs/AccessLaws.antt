@@ -71,35 +71,36 @@ in-mode : (b : Board) (x : List ℕ) (c : Control) (a : Access) (m : Mode) (r : 
     → r ≡ transferring_of b x c a
 in-mode b x c a m r e h = h ∙ ap (by_mode b x c a) (sym e)
 
--- what the code has worked out before it looks at the mode, and the transfer t and group g that it makes by it
-module _ (b : Board) (x : List ℕ) (c : Control) (a : Access) (base : ℕ) (t : Transfer) (g : Group) (r : Elementwise)
-    (p : base ≡ scalar_of x a.rs1) where
-  abbrev Steps : ℕ → ℕ → Type 0
-  Steps stride bytes = t ≡ record { store = a.store; base = base; stride = stride; bytes = bytes }
+-- what the code has worked out before it looks at the mode, and the group g that it makes by it
+module _ (b : Board) (x : List ℕ) (c : Control) (a : Access) (base : ℕ) (g : Group) (r : Elementwise) (p : base ≡ scalar_of x a.rs1) where
+  abbrev by : ℕ → ℕ → Transfer
+  by stride bytes = record { store = a.store; base = base; stride = stride; bytes = bytes }
 
-  pub unit-is : a.mode ≡ M.UnitStride → Steps ((a.nf + 1) * (a.eew / 8)) (a.eew / 8) → g ≡ groups_at c.vtype a.eew a.vd a.nf
-      → r ≡ moving_of a true g (R.Constant 0) t c.vl → r ≡ transferring_of b x c a
+  pub unit-is : a.mode ≡ M.UnitStride → g ≡ groups_at c.vtype a.eew a.vd a.nf
+      → r ≡ moving_of a true g (R.Constant 0) (by ((a.nf + 1) * (a.eew / 8)) (a.eew / 8)) c.vl → r ≡ transferring_of b x c a
   unfolding by_mode
-  unit-is e s h k = in-mode b x c a M.UnitStride r e (rw (k, h, s, p, add-one))
+  unit-is e h k = in-mode b x c a M.UnitStride r e (rw (k, h, p, add-one))
 
-  pub strided-is : (n stride : ℕ) → a.mode ≡ M.Strided n → stride ≡ scalar_of x n → Steps stride (a.eew / 8)
-      → g ≡ groups_at c.vtype a.eew a.vd a.nf → r ≡ moving_of a true g (R.Constant 0) t c.vl → r ≡ transferring_of b x c a
+  pub strided-is : (n stride : ℕ) → a.mode ≡ M.Strided n → stride ≡ scalar_of x n → g ≡ groups_at c.vtype a.eew a.vd a.nf
+      → r ≡ moving_of a true g (R.Constant 0) (by stride (a.eew / 8)) c.vl → r ≡ transferring_of b x c a
   unfolding by_mode
-  strided-is n stride e q s h k = in-mode b x c a (M.Strided n) r e (rw (k, h, s, p, q))
+  strided-is n stride e q h k = in-mode b x c a (M.Strided n) r e (rw (k, h, p, q))
 
-  pub indexed-is : (n sew : ℕ) (o : Group) → a.mode ≡ M.Indexed n → sew ≡ sew_of c.vtype → Steps 0 (sew / 8)
+  pub indexed-is : (n sew : ℕ) (o : Group) → a.mode ≡ M.Indexed n → sew ≡ sew_of c.vtype
       → g ≡ groups_at c.vtype sew a.vd a.nf → o ≡ group_at c.vtype a.eew n
-      → r ≡ moving_of a true g (R.Element o) t c.vl → r ≡ transferring_of b x c a
+      → r ≡ moving_of a true g (R.Element o) (by 0 (sew / 8)) c.vl → r ≡ transferring_of b x c a
   unfolding by_mode
-  indexed-is n sew o e q s h i k = in-mode b x c a (M.Indexed n) r e (rw (k, h, i, s, p, q))
+  indexed-is n sew o e q h i k = in-mode b x c a (M.Indexed n) r e (rw (k, h, i, p, q))
 
-  pub mask_is : a.mode ≡ M.MaskBytes → Steps 1 1 → g ≡ register_at 8 a.vd
-      → r ≡ moving_of a true g (R.Constant 0) t ((c.vl + 7) / 8) → r ≡ transferring_of b x c a
+  pub mask_is : a.mode ≡ M.MaskBytes → g ≡ register_at 8 a.vd
+      → r ≡ moving_of a true g (R.Constant 0) (by 1 1) ((c.vl + 7) / 8) → r ≡ transferring_of b x c a
   unfolding by_mode
-  mask_is e s h k = in-mode b x c a M.MaskBytes r e (rw (k, h, s, p))
+  mask_is e h k = in-mode b x c a M.MaskBytes r e (rw (k, h, p))
 
-  pub whole_is : (n : ℕ) → a.mode ≡ M.Whole n → Steps (a.eew / 8) (a.eew / 8)
-      → g ≡ record { reg = a.vd; eew = a.eew; emul8 = 8 * n; nf = 0 }
-      → r ≡ moving_of a false g (R.Constant 0) t (n * (8 * b.vlenb) / a.eew) → r ≡ transferring_of b x c a
-  unfolding by_mode
-  whole_is n e s h k = in-mode b x c a (M.Whole n) r e (rw (k, h, s, p))
+pub whole_is : (b : Board) (x : List ℕ) (c : Control) (a : Access) (base n : ℕ) (r : Elementwise) → base ≡ scalar_of x a.rs1
+    → a.mode ≡ M.Whole n
+    → r ≡ moving_of a false (record { reg = a.vd; eew = a.eew; emul8 = 8 * n; nf = 0 }) (R.Constant 0)
+    (record { store = a.store; base = base; stride = a.eew / 8; bytes = a.eew / 8 }) (n * (8 * b.vlenb) / a.eew)
+    → r ≡ transferring_of b x c a
+unfolding by_mode
+whole_is b x c a base n r p e k = in-mode b x c a (M.Whole n) r e (rw (k, p))

@@ -20,52 +20,52 @@ use Rattle.plan.specs.declared.OneTurn.{OneTurn}
 use Rattle.plan.specs.declared.OneTurn.TheVariants as O
 use Rattle.plan.specs.Sources.{registers_read, v0_source, element_sources, reduction_sources, packing_sources}
 use Rattle.plan.specs.Sources.{moved_register, one_turn_sources}
-use Rattle.plan.specs.Range.{ReadInRange, InRange, ReductionInRange, PackingInRange, OneTurnFits, Lists}
+use Rattle.plan.specs.Range.{ReadInRange, InRange, OneTurnFits, Lists}
 
 v0-source-range : (masked : Bool) (operand : Read) → ReadInRange operand → ReadInRange (v0_source masked operand)
 v0-source-range masked operand h = either ReadInRange masked (R.Bit 0) operand (λ t. lit< tt) (λ t. h)
-
-abbrev vs2_and_v0 : Read → Read → Sources
-vs2_and_v0 vs2 v0 = record { vs2 = vs2; vs1 = R.Constant 0; vd = R.Constant 0; v0 = v0 }
 
 -- in the arm of the variant v
 pub variant-listed : {A : Type 0} (f : A → List Group) (a v : A) (s : Sources) → a ≡ v → Lists (f v) s → Lists (f a) s
 variant-listed f a v s e h = rw e h
 
-pub nothing-listed : (s : Sources) → s ≡ vs2_and_v0 (R.Constant 0) (R.Constant 0) → Lists [] s
-nothing-listed s h = rw h (refl, record { vs2 = tt; vs1 = tt; vd = tt; v0 = tt })
+pub nothing-listed : Lists [] (record { vs2 = R.Constant 0; vs1 = R.Constant 0; vd = R.Constant 0; v0 = R.Constant 0 })
+nothing-listed = (refl, record { vs2 = tt; vs1 = tt; vd = tt; v0 = tt })
 
 -- ---- an instruction that takes one turn
 
-pub reduction-listed : (r : Reduction) (v0 : Read) → v0 ≡ v0_source r.masked (R.Constant 0) → ReductionInRange r
-    → Lists (reduction_sources r) (record { vs2 = R.Element r.vs2; vs1 = R.Element r.vs1; vd = R.Constant 0; v0 = v0 })
-unfolding reduction_sources
-reduction-listed r v0 h f =
-    rw h (refl, record { vs2 = f.vs2; vs1 = f.vs1; vd = tt; v0 = v0-source-range r.masked (R.Constant 0) tt })
-
-pub packing-listed : (p : Packing) (v0 : Read) → v0 ≡ v0_source p.masked (R.Constant 0) → PackingInRange p
-    → Lists (packing_sources p) (record { vs2 = p.elements; vs1 = R.Bit p.mask; vd = R.Constant 0; v0 = v0 })
-unfolding packing_sources
-packing-listed p v0 h f =
-    rw (h, append-nil) (refl, record { vs2 = f.elements; vs1 = f.mask; vd = tt; v0 = v0-source-range p.masked (R.Constant 0) tt })
-
 register-listed : (op : ScalarMoveOp) (g : Group) → g.reg < 32
-    → Lists (registers_read (moved_register op g)) (vs2_and_v0 (moved_register op g) (R.Constant 0))
+    → Lists (registers_read (moved_register op g))
+    (record { vs2 = moved_register op g; vs1 = R.Constant 0; vd = R.Constant 0; v0 = R.Constant 0 })
 register-listed VmvXS g h = (refl, record { vs2 = h; vs1 = tt; vd = tt; v0 = tt })
 register-listed VmvSX g h = (refl, record { vs2 = tt; vs1 = tt; vd = tt; v0 = tt })
 
-module _ (t : OneTurn) (s : Sources) where
-  pub mask-listed : (m : MaskInstruction) (v0 : Read) → t ≡ O.Mask m → v0 ≡ v0_source m.masked (R.Constant 0)
-      → s ≡ vs2_and_v0 (R.Bit m.vs2) v0 → OneTurnFits t → Lists (one_turn_sources t) s
-  mask-listed m v0 e h k f =
+module _ (t : OneTurn) (v0 : Read) where
+  pub mask-listed : (m : MaskInstruction) → t ≡ O.Mask m → v0 ≡ v0_source m.masked (R.Constant 0) → OneTurnFits t
+      → Lists (one_turn_sources t) (record { vs2 = R.Bit m.vs2; vs1 = R.Constant 0; vd = R.Constant 0; v0 = v0 })
+  mask-listed m e h f =
       let g : OneTurnFits (O.Mask m) = subst OneTurnFits e f in
-      rw (e, k, h) (refl, record { vs2 = g.vs2; vs1 = tt; vd = tt; v0 = v0-source-range m.masked (R.Constant 0) tt })
+      rw (e, h) (refl, record { vs2 = g.vs2; vs1 = tt; vd = tt; v0 = v0-source-range m.masked (R.Constant 0) tt })
 
-  pub move-listed : (m : ScalarMove) → t ≡ O.ScalarMove m → s ≡ vs2_and_v0 (moved_register m.op m.vector) (R.Constant 0)
-      → OneTurnFits t → Lists (one_turn_sources t) s
-  move-listed m e h f =
-      let g : OneTurnFits (O.ScalarMove m) = subst OneTurnFits e f in
-      rw (e, h) (register-listed m.op m.vector g.vector)
+  pub reduction-listed : (r : Reduction) → t ≡ O.Reduction r → v0 ≡ v0_source r.masked (R.Constant 0) → OneTurnFits t
+      → Lists (one_turn_sources t) (record { vs2 = R.Element r.vs2; vs1 = R.Element r.vs1; vd = R.Constant 0; v0 = v0 })
+  unfolding reduction_sources
+  reduction-listed r e h f =
+      let g : OneTurnFits (O.Reduction r) = subst OneTurnFits e f in
+      rw (e, h) (refl, record { vs2 = g.vs2; vs1 = g.vs1; vd = tt; v0 = v0-source-range r.masked (R.Constant 0) tt })
+
+  pub packing-listed : (p : Packing) → t ≡ O.Packing p → v0 ≡ v0_source p.masked (R.Constant 0) → OneTurnFits t
+      → Lists (one_turn_sources t) (record { vs2 = p.elements; vs1 = R.Bit p.mask; vd = R.Constant 0; v0 = v0 })
+  unfolding packing_sources
+  packing-listed p e h f =
+      let g : OneTurnFits (O.Packing p) = subst OneTurnFits e f in
+      rw (e, h, append-nil) (refl, record { vs2 = g.elements; vs1 = g.mask; vd = tt; v0 = v0-source-range p.masked (R.Constant 0) tt })
+
+pub move-listed : (t : OneTurn) (vs2 : Read) (m : ScalarMove) → t ≡ O.ScalarMove m → vs2 ≡ moved_register m.op m.vector → OneTurnFits t
+    → Lists (one_turn_sources t) (record { vs2 = vs2; vs1 = R.Constant 0; vd = R.Constant 0; v0 = R.Constant 0 })
+move-listed t vs2 m e h f =
+    let g : OneTurnFits (O.ScalarMove m) = subst OneTurnFits e f in
+    rw (e, h) (register-listed m.op m.vector g.vector)
 
 -- ---- an instruction of elements
 

@@ -27,6 +27,7 @@ use operation::{Op, Size, V0};
 use width::Eew;
 
 // Where an operand's element comes from: the same number at every index, an element of a register group, or a bit of a mask register.
+// No operand is `Constant(0)` and not None: definitions `value_of` and `registers_read` (theorem `two-eews`) would say the same of both.
 #[derive(Clone, Copy)]
 pub enum Read {
     Constant(u64),
@@ -146,6 +147,16 @@ pub struct Sources {
     pub v0: Read,
 }
 
+impl Sources {
+    // No vector register is read.
+    const NONE: Sources = Sources {
+        vs2: Read::Constant(0),
+        vs1: Read::Constant(0),
+        vd: Read::Constant(0),
+        v0: Read::Constant(0),
+    };
+}
+
 // ---- operands
 
 // A group of elements of so many bits, and one for each field of a segment.
@@ -189,7 +200,7 @@ fn read_if(there: bool, read: Read) -> Read
     Read::Constant(0)
 }
 
-// What is read as a group to be written.
+// What is read as a group to be written. The first arm is that of the definition, and never used: every operation has a destination.
 fn group_of(read: Read) -> Group
     ensures { result ≡ group_of read }
 {
@@ -252,7 +263,7 @@ fn v0_read(v0: V0, masked: bool) -> Read
 fn v0_masks(v0: V0, masked: bool) -> bool
     ensures { result ≡ v0_masks v0 masked }
 {
-    masked & matches!(v0, V0::Masks)
+    masked && matches!(v0, V0::Masks)
 }
 
 // An arithmetic instruction.
@@ -332,12 +343,7 @@ fn moved_by(x: &[u64; 32], vtype: u64, op: PermutationOp, source: Source) -> Rea
 }
 
 // A permutation that goes element by element.
-fn permuting(
-    hart: Hart,
-    x: &[u64; 32],
-    control: Control,
-    a: PermutationInstruction,
-) -> Elementwise
+fn permuting(hart: Hart, x: &[u64; 32], control: Control, a: PermutationInstruction) -> Elementwise
     requires { (sew_of control.vtype ≤ 64) × PermutationFits a }
     ensures { result ≡ permuting_of hart.board x.now control a }
 {
@@ -389,35 +395,16 @@ fn moving(
     }
 }
 
-// Elements of so many bytes, a stride apart.
-fn transfer_by(store: bool, base: u64, stride: u64, bytes: u64) -> Transfer
-    ensures { result ≡ record { store = store; base = base; stride = stride; bytes = bytes } }
-{
-    Transfer {
-        store,
-        base,
-        stride,
-        bytes,
-    }
-}
-
-// A group that does not go by vtype.
-fn fixed_group(reg: usize, eew: usize, emul8: u32) -> Group
-    ensures { result ≡ record { reg = reg; eew = eew; emul8 = emul8; nf = 0 } }
-{
-    Group {
-        reg,
-        eew,
-        emul8,
-        nf: 0,
-    }
-}
-
 // A register alone.
 fn register_at(eew: usize, reg: usize) -> Group
     ensures { result ≡ register_at eew reg }
 {
-    fixed_group(reg, eew, 8)
+    Group {
+        reg,
+        eew,
+        emul8: 8,
+        nf: 0,
+    }
 }
 
 // A load or a store, by its addressing mode.
@@ -432,29 +419,52 @@ fn transferring(hart: Hart, x: &[u64; 32], control: Control, a: Access) -> Eleme
     let eew = a.eew;
     let bytes = eew / 8;
     let plain = Read::Constant(0);
+    let t = Transfer {
+        store: a.store,
+        base,
+        stride: bytes,
+        bytes,
+    };
     match mode {
         Mode::UnitStride => {
-            let t = transfer_by(a.store, base, (a.nf as u64 + 1) * bytes, bytes);
-            moving(a, true, groups_at(vtype, eew, a.vd, a.nf), plain, t, vl)
+            let group = groups_at(vtype, eew, a.vd, a.nf);
+            let stride = (a.nf as u64 + 1) * bytes;
+            moving(a, true, group, plain, Transfer { stride, ..t }, vl)
         }
         Mode::Strided(r) => {
-            let t = transfer_by(a.store, base, scalar(x, r), bytes);
-            moving(a, true, groups_at(vtype, eew, a.vd, a.nf), plain, t, vl)
+            let group = groups_at(vtype, eew, a.vd, a.nf);
+            let stride = scalar(x, r);
+            moving(a, true, group, plain, Transfer { stride, ..t }, vl)
         }
         Mode::Indexed(r) => {
             let sew = Control::sew(vtype);
             let offset = Read::Element(groups_at(vtype, eew, r, 0));
-            let t = transfer_by(a.store, base, 0, sew / 8);
-            moving(a, true, groups_at(vtype, sew, a.vd, a.nf), offset, t, vl)
+            let group = groups_at(vtype, sew, a.vd, a.nf);
+            let stride = 0;
+            let bytes = sew / 8;
+            moving(a, true, group, offset, Transfer { stride, bytes, ..t }, vl)
         }
         Mode::MaskBytes => {
-            let t = transfer_by(a.store, base, 1, 1);
-            moving(a, true, register_at(8, a.vd), plain, t, (vl + 7) / 8)
+            let group = register_at(8, a.vd);
+            let stride = 1;
+            let bytes = 1;
+            moving(
+                a,
+                true,
+                group,
+                plain,
+                Transfer { stride, bytes, ..t },
+                (vl + 7) / 8,
+            )
         }
         Mode::Whole(n) => {
-            let t = transfer_by(a.store, base, bytes, bytes);
             let end = (n as u64) * (8 * (hart.board.vlenb as u64)) / eew;
-            let group = fixed_group(a.vd, eew as usize, (8 * n) as u32);
+            let group = Group {
+                reg: a.vd,
+                eew: eew as usize,
+                emul8: (8 * n) as u32,
+                nf: 0,
+            };
             moving(a, false, group, plain, t, end)
         }
     }
@@ -577,51 +587,6 @@ fn v0_source(masked: bool, operand: Read) -> Read
     operand
 }
 
-// What is read where vs2 and v0 are all that may be.
-fn vs2_and_v0(vs2: Read, v0: Read) -> Sources
-    ensures { result ≡ record { vs2 = vs2; vs1 = Constant 0; vd = Constant 0; v0 = v0 } }
-{
-    Sources {
-        vs2,
-        vs1: Read::Constant(0),
-        vd: Read::Constant(0),
-        v0,
-    }
-}
-
-// A reduction.
-fn reduction_sources(r: Reduction) -> Sources
-    requires { ReductionInRange r }
-    ensures { Lists (reduction_sources r) result }
-{
-    let vs2 = r.vs2;
-    let vs1 = r.vs1;
-    let nothing = Read::Constant(0);
-    let v0 = v0_source(r.masked, nothing);
-    Sources {
-        vs2: Read::Element(vs2),
-        vs1: Read::Element(vs1),
-        vd: nothing,
-        v0,
-    }
-}
-
-// viota.m or vcompress.vm.
-fn packing_sources(p: Packing) -> Sources
-    requires { PackingInRange p }
-    ensures { Lists (packing_sources p) result }
-{
-    let vs2 = p.elements;
-    let nothing = Read::Constant(0);
-    let v0 = v0_source(p.masked, nothing);
-    Sources {
-        vs2,
-        vs1: Read::Bit(p.mask),
-        vd: nothing,
-        v0,
-    }
-}
-
 // The vector register that a scalar move reads.
 fn moved_register(op: ScalarMoveOp, vector: Group) -> Read
     ensures { result ≡ moved_register op vector }
@@ -632,15 +597,6 @@ fn moved_register(op: ScalarMoveOp, vector: Group) -> Read
     }
 }
 
-// A scalar move.
-fn move_sources(m: ScalarMove) -> Sources
-    ensures { result ≡ record { vs2 = moved_register m.op m.vector; vs1 = Constant 0; vd = Constant 0; v0 = Constant 0 } }
-{
-    let op = m.op;
-    let vector = m.vector;
-    vs2_and_v0(moved_register(op, vector), Read::Constant(0))
-}
-
 // An instruction that takes one turn.
 fn one_turn_sources(t: OneTurn) -> Sources
     requires { OneTurnFits t }
@@ -648,11 +604,28 @@ fn one_turn_sources(t: OneTurn) -> Sources
 {
     let nothing = Read::Constant(0);
     match t {
-        OneTurn::Setting(_) => vs2_and_v0(nothing, nothing),
-        OneTurn::Mask(m) => vs2_and_v0(Read::Bit(m.vs2), v0_source(m.masked, nothing)),
-        OneTurn::Reduction(r) => reduction_sources(r),
-        OneTurn::Packing(p) => packing_sources(p),
-        OneTurn::ScalarMove(m) => move_sources(m),
+        OneTurn::Setting(_) => Sources::NONE,
+        OneTurn::Mask(m) => Sources {
+            vs2: Read::Bit(m.vs2),
+            v0: v0_source(m.masked, nothing),
+            ..Sources::NONE
+        },
+        OneTurn::Reduction(r) => Sources {
+            vs2: Read::Element(r.vs2),
+            vs1: Read::Element(r.vs1),
+            v0: v0_source(r.masked, nothing),
+            ..Sources::NONE
+        },
+        OneTurn::Packing(p) => Sources {
+            vs2: p.elements,
+            vs1: Read::Bit(p.mask),
+            v0: v0_source(p.masked, nothing),
+            ..Sources::NONE
+        },
+        OneTurn::ScalarMove(m) => Sources {
+            vs2: moved_register(m.op, m.vector),
+            ..Sources::NONE
+        },
     }
 }
 
@@ -675,7 +648,7 @@ pub fn sources_of(plan: Plan) -> Sources
     ensures { Lists (sources_of plan) result }
 {
     match plan {
-        Plan::Illegal => vs2_and_v0(Read::Constant(0), Read::Constant(0)),
+        Plan::Illegal => Sources::NONE,
         Plan::OneTurn(t) => one_turn_sources(t),
         Plan::Elements(e) => element_sources(e),
     }

@@ -3,12 +3,7 @@ use Rattle.plan.specs.Sources.{sources_of}
 use Rattle.plan.specs.Range.{PlanFits}
 use Rattle.plan.proofs.OperandLaws.{variant_fits}
 use Rattle.plan.proofs.SourceLaws.{variant-listed, nothing-listed}
-use borrow.Author.Rules.{rules}
 use Rattle.plan.proofs.sources_of.Goals as goal
-
-pub vs2_and_v0-requires : goal.vs2_and_v0-requires
-unfolding sources_of
-vs2_and_v0-requires c = search rules
 
 pub one_turn_sources-requires : goal.one_turn_sources-requires
 unfolding sources_of

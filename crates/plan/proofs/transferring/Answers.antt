@@ -8,23 +8,23 @@ use Rattle.plan.proofs.transferring.Goals as goal
 
 ruleset group-eew = (sew-small, access-most)
 
-pub overflow_mul-a : goal.overflow_mul-a
-overflow_mul-a c = search segment-fits
+pub overflow_mul-stride : goal.overflow_mul-stride
+overflow_mul-stride c = search segment-fits
+
+pub groups_at-group-requires : goal.groups_at-group-requires
+groups_at-group-requires c = search group-eew
+
+pub scalar-stride-requires : goal.scalar-stride-requires
+scalar-stride-requires c = search (variant_fits ModeFits M.Strided)
+
+pub groups_at-group-requires-in-Strided : goal.groups_at-group-requires-in-Strided
+groups_at-group-requires-in-Strided c = search group-eew
 
 pub groups_at-requires : goal.groups_at-requires
 groups_at-requires c = search group-eew
 
-pub scalar-requires : goal.scalar-requires
-scalar-requires c = search (variant_fits ModeFits M.Strided)
-
-pub groups_at-requires-in-Strided : goal.groups_at-requires-in-Strided
-groups_at-requires-in-Strided c = search group-eew
-
-pub groups_at-requires-in-Indexed : goal.groups_at-requires-in-Indexed
-groups_at-requires-in-Indexed c = search group-eew
-
-pub groups_at-requires-in-Indexed-2 : goal.groups_at-requires-in-Indexed-2
-groups_at-requires-in-Indexed-2 c = search group-eew
+pub groups_at-group-requires-in-Indexed : goal.groups_at-group-requires-in-Indexed
+groups_at-group-requires-in-Indexed c = search group-eew
 
 pub overflow_mul-end-in-Whole : goal.overflow_mul-end-in-Whole
 overflow_mul-end-in-Whole c = search (whole-bits, valid)
@@ -32,11 +32,11 @@ overflow_mul-end-in-Whole c = search (whole-bits, valid)
 pub nonzero_div-end : goal.nonzero_div-end
 nonzero_div-end c = search access-some
 
-pub overflow_mul-n : goal.overflow_mul-n
-overflow_mul-n c = search whole-emul
+pub overflow_mul-group : goal.overflow_mul-group
+overflow_mul-group c = search whole-emul
 
-pub overflow_cast-n : goal.overflow_cast-n
-overflow_cast-n c = search whole-emul32
+pub overflow_cast-group : goal.overflow_cast-group
+overflow_cast-group c = search whole-emul32
 
 pub returns-in-UnitStride : goal.returns-in-UnitStride
 returns-in-UnitStride c = search unit-is
