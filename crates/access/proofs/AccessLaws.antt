@@ -1,5 +1,7 @@
 -- The access test by its outcomes; the loop over the fields of a segment.
-use Rattle.std.proofs.Common.{◌≡◌, ℕ, zero, suc, ◌+◌, ◌-◌, ◌*◌, ◌/◌, ◌%◌, ◌^◌, ◌<◌, ◌≤◌, Bool, true, false, not, T, eqb, leb, List, get_or, sym, refl, ap, ◌∙◌, mod-eq_of_lt, add-one, arith, w64, Fits, eq-eqb, eqb-true, le-leb, leb-false, leb-true}
+use Rattle.std.proofs.Common.{◌≡◌, ℕ, zero, suc, ◌+◌, ◌-◌, ◌*◌, ◌/◌, ◌%◌, ◌^◌, ◌<◌, ◌≤◌, Bool, true, false, not, T, eqb, leb, List}
+use Rattle.std.proofs.Common.{get_or, sym, refl, ap, ◌∙◌, mod-eq_of_lt, add-one, arith, w64, Fits, eq-eqb, eqb-true, le-leb, leb-false}
+use Rattle.std.proofs.Common.{leb-true}
 use Rattle.std.specs.Prelude.{Result, Ok, Err, ⊤, IsErrAnd}
 use borrow.Author.Tests.{eqb-false, lt-leb, not-true, not-false}
 use Rattle.laws.proofs.Chain.{either}

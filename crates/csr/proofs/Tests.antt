@@ -1,4 +1,5 @@
--- What the tests before a CSR's number come to: where they let the record through, the number decides, and where they don't, that is the answer.
+-- What the tests before a CSR's number come to: where they let the record through, the number decides, and where they don't, that is the
+-- answer.
 use mathlib.Core.Path.{◌≡◌, refl}
 use mathlib.Core.Bool.{Bool, true, false, cond}
 use Rattle.std.specs.Prelude.{Result, Ok, Err}

@@ -39,15 +39,18 @@ module _ (b : Board) (c : Control) (csr x : ℕ) where
 
   pub vstart-stored : (d : Control) → csr ≡ 0x008 → Stored (with_vs (with_vstart c d.vstart) d.vs) d
   vstart-stored d e = outcomes (λ r. Ok d ≡ r → with_vs (with_vstart c d.vstart) d.vs ≡ record_after c r)
-      (λ a h. cc) (λ i k h. let l : d ≡ dirtied (with_vstart c i) = cc in rw l) (λ i k h. absurd (omega arith)) (λ i k h. absurd (omega arith)) (λ i j k h. absurd (omega arith))
+      (λ a h. cc) (λ i k h. let l : d ≡ dirtied (with_vstart c i) = cc in rw l) (λ i k h. absurd (omega arith)) (λ i k h. absurd (omega arith))
+      (λ i j k h. absurd (omega arith))
 
   pub vxsat-stored : (d : Control) → csr ≡ 0x009 → Stored (with_vs (with_vxsat c d.vxsat) d.vs) d
   vxsat-stored d e = outcomes (λ r. Ok d ≡ r → with_vs (with_vxsat c d.vxsat) d.vs ≡ record_after c r)
-      (λ a h. cc) (λ i k h. absurd (omega arith)) (λ i k h. let l : d ≡ dirtied (with_vxsat c i) = cc in rw l) (λ i k h. absurd (omega arith)) (λ i j k h. absurd (omega arith))
+      (λ a h. cc) (λ i k h. absurd (omega arith)) (λ i k h. let l : d ≡ dirtied (with_vxsat c i) = cc in rw l) (λ i k h. absurd (omega arith))
+      (λ i j k h. absurd (omega arith))
 
   pub vxrm-stored : (d : Control) → csr ≡ 0x00A → Stored (with_vs (with_vxrm c d.vxrm) d.vs) d
   vxrm-stored d e = outcomes (λ r. Ok d ≡ r → with_vs (with_vxrm c d.vxrm) d.vs ≡ record_after c r)
-      (λ a h. cc) (λ i k h. absurd (omega arith)) (λ i k h. absurd (omega arith)) (λ i k h. let l : d ≡ dirtied (with_vxrm c i) = cc in rw l) (λ i j k h. absurd (omega arith))
+      (λ a h. cc) (λ i k h. absurd (omega arith)) (λ i k h. absurd (omega arith)) (λ i k h. let l : d ≡ dirtied (with_vxrm c i) = cc in rw l)
+      (λ i j k h. absurd (omega arith))
 
   pub vcsr-stored : (d : Control) → (csr ≡ 0x008 → ⊥) → (csr ≡ 0x009 → ⊥) → (csr ≡ 0x00A → ⊥)
       → Stored (with_vs (with_vxsat (with_vxrm c d.vxrm) d.vxsat) d.vs) d

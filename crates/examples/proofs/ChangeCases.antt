@@ -16,11 +16,13 @@ use Rattle.control.specs.Control.{possible_of, typed_well_of}
 use Rattle.turn_theory.specs.Turn.{turn, clean, written}
 use Rattle.refusal.specs.Refusal.{refusal_of}
 use Rattle.decode.specs.Listing.{listing, vmunary0, vwxunary0, find, entry_of}
-use Rattle.decode.specs.Word.{decode_of, arithmetic_of, resolved_of, source_of, avl_of, setting_of, width_of, mask_of, whole_of, unit_of, memory_of}
+use Rattle.decode.specs.Word.{decode_of, arithmetic_of, resolved_of, source_of, avl_of, setting_of, width_of, mask_of, whole_of, unit_of}
+use Rattle.decode.specs.Word.{memory_of}
 use Rattle.layout.specs.Layout.{bytes_at, bit_at, with_bytes, element_at, with_element}
 use Rattle.group.specs.Group.{placed_of, emul8_of, may_overlap_of, may_share_of, spares_v0}
 use Rattle.access.specs.Access.{access_of, fields_access}
-use Rattle.plan.specs.Plan.{read_at, second_of, index_of, shaped_of, permuting_of, moving_of, by_mode, reducing_of, packing_of, scalar_moving_of}
+use Rattle.plan.specs.Plan.{read_at, second_of, index_of, shaped_of, permuting_of, moving_of, by_mode, reducing_of, packing_of}
+use Rattle.plan.specs.Plan.{scalar_moving_of}
 use Rattle.plan.specs.Plan.{plan_of}
 use Rattle.plan.specs.Sources.{element_sources, reduction_sources, packing_sources, sources_of}
 use Rattle.legality.specs.Legal.{read_fits, operands_fit, elements_legal, sources_fit, kind_legal, legal_of}

@@ -1,6 +1,7 @@
 -- Changes between turns (document 02, A12): what some words read and write; a pupil who pauses and changes what the word does not touch;
 -- and why each condition is there: a change of what it does touch, after which the run is not the uncut one.
-use Rattle.std.specs.Prelude.{ℕ, zero, suc, ◌-◌, ◌*◌, ◌+◌, ◌^◌, ◌≡◌, Bool, true, false, cond, List, [], ◌∷◌, ◌++◌, map, take, drop, set, replicate}
+use Rattle.std.specs.Prelude.{ℕ, zero, suc, ◌-◌, ◌*◌, ◌+◌, ◌^◌, ◌≡◌, Bool, true, false, cond, List, [], ◌∷◌, ◌++◌, map, take, drop, set}
+use Rattle.std.specs.Prelude.{replicate}
 use Rattle.answer.specs.declared.Answer.TheVariants.{Finished, Paused}
 use Rattle.control.specs.declared.Control.{Control}
 use Rattle.control.specs.Board.{base, small}

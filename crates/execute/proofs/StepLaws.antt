@@ -1,5 +1,6 @@
 -- Operands by where they come from, and an element by what it comes to: masked off, faulted, moved field by field, or computed.
-use Rattle.std.proofs.Common.{◌≡◌, ℕ, suc, ◌+◌, ◌-◌, ◌*◌, ◌^◌, ◌<◌, ◌≤◌, Bool, true, false, cond, List, [], ◌∷◌, length, sym, refl, ap, ◌∙◌, subst, mul-le-mul_right, mod-eq_of_lt, add-one, arith}
+use Rattle.std.proofs.Common.{◌≡◌, ℕ, suc, ◌+◌, ◌-◌, ◌*◌, ◌^◌, ◌<◌, ◌≤◌, Bool, true, false, cond, List, [], ◌∷◌, length, sym, refl, ap}
+use Rattle.std.proofs.Common.{◌∙◌, subst, mul-le-mul_right, mod-eq_of_lt, add-one, arith}
 use Rattle.std.specs.Prelude.{Result, Ok, ⊤}
 use Rattle.fixed.specs.declared.Element.{Element}
 use Rattle.alu.specs.Element.{element_of}

@@ -38,7 +38,8 @@ use Rattle.plan.specs.declared.Plan.{Plan}
 use Rattle.plan.specs.declared.Plan.TheVariants as P
 use Rattle.plan.specs.Plan.{group_at, groups_at, register_at, computing_of, permuting_of, moving_of, by_mode, reducing_of, packed_elements}
 use Rattle.plan.specs.Plan.{scalar_eew, packing_of, scalar_moving_of, plan_of, shaped_of}
-use Rattle.legality.specs.Legal.{read_fits, writes_registers, is_strict, operands_fit, startable, reduction_placed, packing_placed, one_turn_legal}
+use Rattle.legality.specs.Legal.{read_fits, writes_registers, is_strict, operands_fit, startable, reduction_placed, packing_placed}
+use Rattle.legality.specs.Legal.{one_turn_legal}
 use Rattle.machine.proofs.Geometry.{Power, sew-power, power-width, Extent, placed-extent}
 use Rattle.machine.proofs.PlanFacts.{Operand, constant, bit, element, OfV0, unused, Typed, typed-extent, legal-at}
 use Rattle.machine.proofs.PlanFacts.{ReachFits, computing-typed, permuting-typed, mode-end, unit-typed, strided-typed, indexed-typed}

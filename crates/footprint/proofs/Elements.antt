@@ -26,7 +26,8 @@ use Rattle.plan.specs.declared.Action.TheVariants as A
 use Rattle.plan.specs.declared.Elementwise.{Elementwise}
 use Rattle.turn_theory.specs.Turn.{Effect, inactive, fault, write}
 use Rattle.machine.specs.State.{Core}
-use Rattle.machine.specs.Effect.{Write, to_registers, to_memory, put_of, put_all, value_of, active_of, element_address, if_granted, vs2_at, stays_at}
+use Rattle.machine.specs.Effect.{Write, to_registers, to_memory, put_of, put_all, value_of, active_of, element_address, if_granted}
+use Rattle.machine.specs.Effect.{vs2_at, stays_at}
 use Rattle.machine.specs.Effect.{each_field, field_write, transferring, acting_of, effect_of}
 use Rattle.machine.proofs.EffectLaws.{permuted-same}
 use Rattle.footprint.specs.Changes.{Change, register_byte, scalar_register, memory_byte, changed_registers, changed_scalars, changed_memory}

@@ -27,7 +27,8 @@ use Rattle.plan.specs.declared.ScalarMove.{ScalarMove}
 use Rattle.plan.specs.Plan.{scalar_of}
 use Rattle.machine.specs.State.{Core}
 use Rattle.machine.specs.Effect.{value_of, active_of}
-use Rattle.machine.specs.OneTurn.{avl_from, type_from, setting_result, set_at, population_of, first_of, writing_each, setting_first, first_in}
+use Rattle.machine.specs.OneTurn.{avl_from, type_from, setting_result, set_at, population_of, first_of, writing_each, setting_first}
+use Rattle.machine.specs.OneTurn.{first_in}
 use Rattle.machine.specs.OneTurn.{mask_result, joined_by, active_elements, elements_in, reduced_file, packs, packed_place, packed_value}
 use Rattle.machine.specs.OneTurn.{packed_file, scalar_move_result}
 use Rattle.footprint.specs.Footprint.{avl_scalars, type_scalars}

@@ -13,7 +13,8 @@ use lib.Pow.{pow_mono}
 use lib.Seq.{get_or-set_same, get_or-set_other, set_out, set_comm}
 use borrow.Author.Tests.{eq-eqb, ne_eqb, eqb-true}
 use Rattle.laws.proofs.Chain.{either}
-use Rattle.layout.specs.Layout.{bytes_at, with_bytes, bit_at, with_bit_at, element_at, with_element, bit_of, with_bit, element_width, Inside}
+use Rattle.layout.specs.Layout.{bytes_at, with_bytes, bit_at, with_bit_at, element_at, with_element, bit_of, with_bit, element_width}
+use Rattle.layout.specs.Layout.{Inside}
 use Rattle.layout.proofs.WidthLaws.{whole-bytes, shape}
 use Rattle.layout.proofs.BytesLaws.{length-with_bytes, with_bytes-other, bytes_same, bytes_apart, Bytes, bytes_lt, bytes-set}
 use Rattle.layout.proofs.BytesLaws.{with_bytes-set}

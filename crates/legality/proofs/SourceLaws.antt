@@ -56,7 +56,8 @@ pub sources-are : (s : Sources) (p q r t u v : Bool)
     → u ≡ sources_fit (registers_read s.vs1 ++ registers_read s.v0)
     → v ≡ sources_fit (registers_read s.vd ++ registers_read s.v0)
     → (p && q && r && t && u && v) ≡ sources_fit (listed s)
-sources-are s p q r t u v e1 e2 e3 e4 e5 e6 = simp (e1, e2, e3, e4, e5, e6, fit-of-both, across-of-both, read-fits-alone, and-true, and_assoc)
+sources-are s p q r t u v e1 e2 e3 e4 e5 e6 =
+    simp (e1, e2, e3, e4, e5, e6, fit-of-both, across-of-both, read-fits-alone, and-true, and_assoc)
 
 -- ---- a source beside an operand, in the arm of the operand
 

@@ -53,7 +53,8 @@ use Rattle.plan.specs.declared.Elementwise.{Elementwise}
 use Rattle.plan.proofs.AccessLaws.{one_of, eew-low, whole_le}
 use Rattle.plan.specs.declared.Plan.{Plan}
 use Rattle.plan.specs.declared.Plan.TheVariants as P
-use Rattle.plan.specs.Plan.{group_at, groups_at, read_at, group_of, second_of, v0_read, shaped_of, computing_of, moving_of, by_mode, plan_of}
+use Rattle.plan.specs.Plan.{group_at, groups_at, read_at, group_of, second_of, v0_read, shaped_of, computing_of, moving_of, by_mode}
+use Rattle.plan.specs.Plan.{plan_of}
 use Rattle.plan.specs.Plan.{index_of, moved_elements, moved_by, permuting_of, scalar_eew, packed_elements}
 use Rattle.legality.specs.Legal.{overlap_fits, read_fits, writes_registers, strictly, is_strict, is_bit, operands_fit}
 use Rattle.machine.specs.Effect.{value_of}

@@ -31,7 +31,8 @@ use Rattle.plan.specs.Range.{OneTurnFits, PlanFits}
 use Rattle.plan.proofs.RangeLaws.{plan-range}
 use Rattle.legality.specs.Legal.{startable, mask_apart, one_turn_legal}
 use Rattle.machine.specs.State.{Core}
-use Rattle.machine.specs.OneTurn.{with_scalar, avl_from, type_from, setting_result, mask_result, reduced_file, packed_file, scalar_move_result}
+use Rattle.machine.specs.OneTurn.{with_scalar, avl_from, type_from, setting_result, mask_result, reduced_file, packed_file}
+use Rattle.machine.specs.OneTurn.{scalar_move_result}
 use Rattle.machine.specs.OneTurn.{one_turn_result}
 use Rattle.machine.proofs.Geometry.{sew-power, register-inside}
 use Rattle.machine.proofs.PlanFacts.{typed-supported}

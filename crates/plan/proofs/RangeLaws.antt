@@ -41,7 +41,8 @@ use Rattle.plan.specs.declared.Read.TheVariants as R
 use Rattle.plan.specs.declared.Transfer.{Transfer}
 use Rattle.plan.specs.declared.Plan.{Plan}
 use Rattle.plan.specs.Plan.{scalar_of, read_at, group_of, second_of, v0_read, shaped_of, computing_of, index_of, moved_elements, moved_by}
-use Rattle.plan.specs.Plan.{permuting_of, moving_of, by_mode, reducing_of, counted_mask, packed_elements, packing_of, scalar_moving_of, plan_of}
+use Rattle.plan.specs.Plan.{permuting_of, moving_of, by_mode, reducing_of, counted_mask, packed_elements, packing_of, scalar_moving_of}
+use Rattle.plan.specs.Plan.{plan_of}
 use Rattle.plan.specs.Range.{ReadInRange, InRange, PlanFits}
 
 -- ---- the registers of a decoded word are in range

@@ -13,7 +13,8 @@ use borrow.Author.Tests.{lt-ltb, le-ltb}
 use Rattle.hexadecimal.specs.Hexadecimal.{is_digit, digit_of, all_at, number_at}
 use Rattle.text.specs.Text.{ascii}
 use Rattle.sheet_read.specs.Sheet.{value_at, same_to, begins, hex_line, is_mark, mark_of, rights_at, marks_from, rights_line}
-use Rattle.sheet_read.specs.Sheet.{x10_at, x11_at, x12_at, allow_at, x10_from, x11_from, x12_from, allow_from, allow_of, after_allow, first_word}
+use Rattle.sheet_read.specs.Sheet.{x10_at, x11_at, x12_at, allow_at, x10_from, x11_from, x12_from, allow_from, allow_of, after_allow}
+use Rattle.sheet_read.specs.Sheet.{first_word}
 use Rattle.sheet_read.specs.Sheet.{word_line, word_length, most_words, count_at, words_at, after_words, bad_end, first_bad, sheet_of}
 use Rattle.sheet_read.proofs.LineLaws.{cond-le}
 

@@ -1,5 +1,6 @@
 -- What a sheet says, and its first bad line (document 01, 'The sheet runner'). A byte past the end reads as 0, which no line has.
-use Rattle.std.specs.Prelude.{ℕ, zero, suc, ◌+◌, ◌-◌, ◌*◌, Bool, true, not, ◌&&◌, ◌||◌, cond, List, [], ◌∷◌, ◌++◌, length, get_or, ltb, leb, eqb}
+use Rattle.std.specs.Prelude.{ℕ, zero, suc, ◌+◌, ◌-◌, ◌*◌, Bool, true, not, ◌&&◌, ◌||◌, cond, List, [], ◌∷◌, ◌++◌, length, get_or, ltb}
+use Rattle.std.specs.Prelude.{leb, eqb}
 use Rattle.hexadecimal.specs.Hexadecimal.{is_decimal, all_at, digits_at, number_at}
 use Rattle.text.specs.Text.{ascii}
 

@@ -138,8 +138,8 @@ module _ (b : Board) (word : ℕ) (file x memory rights : List ℕ) (c : Control
   abbrev before : State
   before = given file x memory rights c
 
-  pub refused-word : (n : ℕ) (v : Result ⊤ Answer) (a : Answer) (r : Turned) → v ≡ refusal_of b (length file) (length x) (length memory) rights c
-      → v ≡ Err a
+  pub refused-word : (n : ℕ) (v : Result ⊤ Answer) (a : Answer) (r : Turned)
+      → v ≡ refusal_of b (length file) (length x) (length memory) rights c → v ≡ Err a
       → r ≡ still a c → left r file x memory rights ≡ turn_of b word n before
   refused-word n v a r q h e = ap (λ (t : Turned). left t file x memory rights) e ∙ sym ((demand-1 b).refuses word n before a (sym q ∙ h))
 

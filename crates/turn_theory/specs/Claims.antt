@@ -2,7 +2,8 @@
 -- demanded of the machine is said on `turn_of`, in machine/specs/Demands, and does not cite this file.
 use Rattle.std.specs.Prelude.{◌≡◌, false, List, ℕ, zero, ◌+◌, ◌-◌, ◌≤◌, ◌<◌}
 use Rattle.std.proofs.Math.Option.{none}
-use Rattle.turn_theory.specs.Turn.{write, faults, Semantics, finished, trapped, Point, TurnEnd, Turn, written, carried_in_place, turn, turns}
+use Rattle.turn_theory.specs.Turn.{write, faults, Semantics, finished, trapped, Point, TurnEnd, Turn, written, carried_in_place, turn}
+use Rattle.turn_theory.specs.Turn.{turns}
 use Rattle.turn_theory.specs.Turn.{NoneFinishes, Opening, final_rights, uncut_allowance, uncut_run}
 
 -- An instruction is lawful if no element changes what a later one does, and raised rights change only elements that fault.

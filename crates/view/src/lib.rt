@@ -3,7 +3,7 @@
 #![tactic(auto)]
 
 ghost use Rattle.std.specs.Prelude.{◌≡◌, length};
-ghost use Rattle.answer.specs.Answer.{answer_of};
+ghost use Rattle.answer.specs.Answer.{number_of, answer_of};
 ghost use Rattle.view.specs.View.{is_group_of, place_of, start_of, part_of, point_at};
 
 use answer::Answer;
@@ -41,26 +41,26 @@ pub fn place(hart: Hart, bytes: usize, first: usize, count: usize) -> Result<Vie
     })
 }
 
-// The bytes of the group, or an empty part; the answer beside it. (No Result: document 01 asks for a part of the file, or an empty part on
-// refusal.)
+// The bytes of the group, or an empty part; the answer's number beside it. (No Result: document 01 asks for a part of the file, or an empty
+// part on refusal. A number and no `Answer`: README names the call, and a caller may lend any number.)
 pub fn view_with<'a>(
     hart: Hart,
     registers: &'a [u8],
     first: usize,
     count: usize,
-    answer: &mut Answer,
+    answer: &mut u64,
 ) -> &'a [u8]
     ensures part { result.now ≡ part_of hart.board registers.now first count }
-    ensures answered { answer.new ≡ answer_of (place_of hart.board (length registers.now) first count) }
+    ensures answered { answer.new ≡ number_of (answer_of (place_of hart.board (length registers.now) first count)) }
     ensures place { result.ref_ptr ≡ point_at registers.entry.ref_ptr (start_of (place_of hart.board (length registers.now) first count)) }
 {
     match place(hart, registers.len(), first, count) {
         Ok(place) => {
-            *answer = Answer::Finished;
+            *answer = u64::from(Answer::Finished);
             &registers[place.start..place.start + place.size]
         }
         Err(refused) => {
-            *answer = refused;
+            *answer = u64::from(refused);
             &registers[..0]
         }
     }
@@ -71,6 +71,6 @@ pub fn view(hart: Hart, registers: &[u8], first: usize, count: usize) -> &[u8]
     ensures part { result.now ≡ part_of hart.board registers.now first count }
     ensures place { result.ref_ptr ≡ point_at registers.entry.ref_ptr (start_of (place_of hart.board (length registers.now) first count)) }
 {
-    let mut answer = Answer::Finished;
+    let mut answer = 0;
     view_with(hart, registers, first, count, &mut answer)
 }

@@ -1,5 +1,6 @@
 -- Results that fit their width: `search bounds` proves it of an operation, from the operands' bounds where it needs them.
-use Rattle.std.proofs.Common.{ℕ, ◌*◌, ◌/◌, ◌%◌, ◌^◌, ◌<◌, min, max, Bool, true, false, cond, lt_of_lt_of_le, lt_of_le_of_lt, mod-lt, div-le_self, arith, pow_pos, pow_mono, shr_lt}
+use Rattle.std.proofs.Common.{ℕ, ◌*◌, ◌/◌, ◌%◌, ◌^◌, ◌<◌, min, max, Bool, true, false, cond, lt_of_lt_of_le, lt_of_le_of_lt, mod-lt}
+use Rattle.std.proofs.Common.{div-le_self, arith, pow_pos, pow_mono, shr_lt}
 use native.Mathlib.Nat.{mod-le}
 use lib.Bits.{and_lt, or_lt, xor_lt}
 use lib.Pow.{ones_lt}

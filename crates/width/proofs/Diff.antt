@@ -1,6 +1,8 @@
 -- An integer as a difference of two naturals, `sub_ℕ p n`, which is p − n: the operations of ℤ on differences, so that a fact about
 -- integers becomes one about naturals, which omega proves. Assumes nothing.
-use Rattle.std.proofs.Common.{◌≡◌, ℕ, zero, suc, ◌+◌, ◌-◌, ◌*◌, ◌/◌, ◌%◌, ◌^◌, ◌<◌, ◌≤◌, Bool, true, false, cond, not, ltb, leb, ℤ, pos, negsuc, ◌+ℤ◌, neg_ℤ, sym, refl, ap, ◌∙◌, mod-lt, mod-eq_of_lt, lt_of_not-le, div-add-mod', arith, pow_pos, le-ltb, lt-ltb, le-leb}
+use Rattle.std.proofs.Common.{◌≡◌, ℕ, zero, suc, ◌+◌, ◌-◌, ◌*◌, ◌/◌, ◌%◌, ◌^◌, ◌<◌, ◌≤◌, Bool, true, false, cond, not, ltb, leb, ℤ, pos}
+use Rattle.std.proofs.Common.{negsuc, ◌+ℤ◌, neg_ℤ, sym, refl, ap, ◌∙◌, mod-lt, mod-eq_of_lt, lt_of_not-le, div-add-mod', arith, pow_pos}
+use Rattle.std.proofs.Common.{le-ltb, lt-ltb, le-leb}
 use native.Mathlib.Nat.{sub-zero, mul-add-mod_self_right}
 use native.Mathlib.Decide.{dec_le}
 use lib.IntN.{sub_ℕ}

@@ -1,5 +1,8 @@
 -- Signed machine integers: what a local of type i64 holds, and `signed` and `wrap` over the width.
-use Rattle.std.proofs.Common.{◌≡◌, ℕ, zero, suc, ◌+◌, ◌-◌, ◌*◌, ◌/◌, ◌%◌, ◌^◌, ◌<◌, ◌≤◌, Bool, cond, ℤ, pos, negsuc, ◌-ℤ◌, ◌*ℤ◌, neg_ℤ, nat_abs, sym, refl, ap, ◌∙◌, ap₂, le_trans, le_of_eq, lt_of_lt_of_le, lt_of_le_of_lt, mod-lt, mod-eq_of_lt, mul-le-mul, lt_of_not-le, zero-add, div-le_self, div-add-mod', arith, lit<, pow_pos, pow_mono, to_z-of_z, w64, SFits, to_z, of_z, le-ltb, lt-ltb}
+use Rattle.std.proofs.Common.{◌≡◌, ℕ, zero, suc, ◌+◌, ◌-◌, ◌*◌, ◌/◌, ◌%◌, ◌^◌, ◌<◌, ◌≤◌, Bool, cond, ℤ, pos, negsuc, ◌-ℤ◌, ◌*ℤ◌, neg_ℤ}
+use Rattle.std.proofs.Common.{nat_abs, sym, refl, ap, ◌∙◌, ap₂, le_trans, le_of_eq, lt_of_lt_of_le, lt_of_le_of_lt, mod-lt, mod-eq_of_lt}
+use Rattle.std.proofs.Common.{mul-le-mul, lt_of_not-le, zero-add, div-le_self, div-add-mod', arith, lit<, pow_pos, pow_mono, to_z-of_z}
+use Rattle.std.proofs.Common.{w64, SFits, to_z, of_z, le-ltb, lt-ltb}
 use mathlib.Core.Path.{subst⁻¹}
 use native.Mathlib.Nat.{mul-le-mul_right}
 use Rattle.std.proofs.lemmas.Nat.{shl-shr}

@@ -23,7 +23,13 @@ returns-in-10 c = rw (allowed _ _ _ _ c.in_ok-accessible.ensures, c.in-10.is, c.
 
 pub returns-in-15 : goal.returns-in-15
 unfolding written_of
-returns-in-15 c = rw (allowed _ _ _ _ c.in_ok-accessible.ensures, c.in-15.is, c.with_vxsat-in-15.ensures, c.with_vxrm-in-15.ensures, c.dirtied-next.ensures)
+returns-in-15 c = rw (
+  allowed _ _ _ _ c.in_ok-accessible.ensures,
+  c.in-15.is,
+  c.with_vxsat-in-15.ensures,
+  c.with_vxrm-in-15.ensures,
+  c.dirtied-next.ensures,
+)
 
 pub returns-in_default : goal.returns-in_default
 unfolding written_of

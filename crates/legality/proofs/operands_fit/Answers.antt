@@ -18,7 +18,8 @@ operands-are : (elen : ℕ) (e : Elementwise) (w s placed vs2 vs1 vd bit spared 
     → spared ≡ spares_v0 (e.masked || bit) e.dest
     → ((eqb e.dest.eew 1 || placed) && vs2 && vs1 && vd && (not w || spared)) ≡ operands_fit elen e
 unfolding operands_fit
-operands-are elen e w s placed vs2 vs1 vd bit spared e1 e2 e3 e4 e5 e6 e7 e8 = rw (e8, e7, e6, e5, e4, e3, e2, e1, and_assoc, and_assoc, and_assoc)
+operands-are elen e w s placed vs2 vs1 vd bit spared e1 e2 e3 e4 e5 e6 e7 e8 =
+    rw (e8, e7, e6, e5, e4, e3, e2, e1, and_assoc, and_assoc, and_assoc)
 
 pub returns : goal.returns
 returns c = search operands-are

@@ -1,4 +1,5 @@
-use Rattle.sheet.proofs.RunLaws.{turning-none, turning-more, turning-done, turning-answer, turning-near, turning-last, last-answer, last-near}
+use Rattle.sheet.proofs.RunLaws.{turning-none, turning-more, turning-done, turning-answer, turning-near, turning-last, last-answer}
+use Rattle.sheet.proofs.RunLaws.{last-near}
 use Rattle.sheet.proofs.Machine.run_word.Goals as goal
 
 pub loop-turn-init : goal.loop-turn-init
