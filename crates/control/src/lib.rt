@@ -37,9 +37,7 @@ pub struct Hart {
 }
 
 impl Hart {
-    pub const BASE: Hart = Hart {
-        board: Board::BASE,
-    };
+    pub const BASE: Hart = Hart { board: Board::BASE };
 
     pub const SMALL: Hart = Hart {
         board: Board::SMALL,
