@@ -17,6 +17,7 @@ ghost use Rattle.sheet.specs.Bounds.{sheet_bound};
 ghost use Rattle.crossing.specs.Crossing.{Shows, Tells};
 
 use control::{Control, Hart};
+use view::ViewPlace;
 
 pub mod small;
 
@@ -106,7 +107,8 @@ pub extern "C" fn prashunde_csr_read(csr: u64, control: &[u64; 6], value: &mut u
     ensures value_after { value.new ≡ value_of (read_of base (record_of control.now) csr) }
     ensures control_value { control.exit.now ≡ control.entry.now }
 {
-    crossing::read(csr::read(hart(), Control::from(*control), csr), value)
+    let read = csr::read(hart(), Control::from(*control), csr);
+    crossing::read(crossing::answer(read), read.unwrap_or(0), value)
 }
 
 // The record after a write, through the write on a lent record; the same record beside any other answer than 0.
@@ -118,7 +120,7 @@ pub extern "C" fn prashunde_csr_write(csr: u64, value: u64, control: &mut [u64; 
 {
     let mut record = Control::from(*control);
     let outcome = csr_field::write(hart(), &mut record, csr, value);
-    crossing::written(outcome, record, control)
+    crossing::written(crossing::answer(outcome), record, control)
 }
 
 // Where a group of registers lies in the file: registers[start .. start + size]. Both are 0 beside any other answer than 0.
@@ -134,8 +136,11 @@ pub extern "C" fn prashunde_view(
     ensures start_after { start.new ≡ start_of (place_of base (length registers.now) first count) }
     ensures size_after { size.new ≡ size_of (place_of base (length registers.now) first count) }
 {
+    let place = view::place(hart(), registers.len(), first, count);
+    let nowhere = ViewPlace { start: 0, size: 0 };
     crossing::placed(
-        view::place(hart(), registers.len(), first, count),
+        crossing::answer(place),
+        place.unwrap_or(nowhere),
         start,
         size,
     )

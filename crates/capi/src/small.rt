@@ -12,6 +12,7 @@ ghost use Rattle.access_check.specs.AccessCheck.{access_check_of};
 ghost use Rattle.crossing.specs.Crossing.{Shows, Tells};
 
 use control::{Control, Hart};
+use view::ViewPlace;
 
 fn hart() -> Hart
     ensures { result.board ≡ small }
@@ -94,7 +95,8 @@ pub extern "C" fn prashunde_small_csr_read(csr: u64, control: &[u64; 6], value: 
     ensures value_after { value.new ≡ value_of (read_of small (record_of control.now) csr) }
     ensures control_value { control.exit.now ≡ control.entry.now }
 {
-    crossing::read(csr::read(hart(), Control::from(*control), csr), value)
+    let read = csr::read(hart(), Control::from(*control), csr);
+    crossing::read(crossing::answer(read), read.unwrap_or(0), value)
 }
 
 #[unsafe(no_mangle)]
@@ -105,7 +107,7 @@ pub extern "C" fn prashunde_small_csr_write(csr: u64, value: u64, control: &mut 
 {
     let mut record = Control::from(*control);
     let outcome = csr_field::write(hart(), &mut record, csr, value);
-    crossing::written(outcome, record, control)
+    crossing::written(crossing::answer(outcome), record, control)
 }
 
 #[unsafe(no_mangle)]
@@ -120,8 +122,11 @@ pub extern "C" fn prashunde_small_view(
     ensures start_after { start.new ≡ start_of (place_of small (length registers.now) first count) }
     ensures size_after { size.new ≡ size_of (place_of small (length registers.now) first count) }
 {
+    let place = view::place(hart(), registers.len(), first, count);
+    let nowhere = ViewPlace { start: 0, size: 0 };
     crossing::placed(
-        view::place(hart(), registers.len(), first, count),
+        crossing::answer(place),
+        place.unwrap_or(nowhere),
         start,
         size,
     )

@@ -6,8 +6,6 @@
 ghost use Rattle.std.specs.Prelude.{◌≡◌, List, ℕ};
 ghost use Rattle.answer.specs.Answer.{number_of, answer_of};
 ghost use Rattle.control.specs.Control.{fields_of};
-ghost use Rattle.csr.specs.Csr.{value_of};
-ghost use Rattle.view.specs.View.{start_of, size_of};
 ghost use Rattle.machine.specs.Call.{left};
 ghost use Rattle.crossing.specs.Crossing.{Shows, Tells};
 
@@ -55,51 +53,41 @@ pub fn checked(
     u64::from(checked.answer)
 }
 
-// A read by CSR number: the value is 0 beside a refusal.
-pub fn read(read: Result<u64, Answer>, value: &mut u64) -> u64
-    ensures answered { result ≡ number_of (answer_of read) }
-    ensures value_after { value.new ≡ value_of read }
+// The answer of a call that gives a value or is refused.
+pub fn answer<T: Copy>(outcome: Result<T, Answer>) -> Answer
+    ensures { result ≡ answer_of outcome }
 {
-    match read {
-        Ok(found) => {
-            *value = found;
-            u64::from(Answer::Finished)
-        }
-        Err(refused) => {
-            *value = 0;
-            u64::from(refused)
-        }
+    match outcome {
+        Ok(_) => Answer::Finished,
+        Err(refused) => refused,
     }
+}
+
+// A read by CSR number.
+pub fn read(answer: Answer, found: u64, value: &mut u64) -> u64
+    ensures answered { result ≡ number_of answer }
+    ensures value_after { value.new ≡ found }
+{
+    *value = found;
+    u64::from(answer)
 }
 
 // A write by CSR number, and the record after it.
-pub fn written(outcome: Result<(), Answer>, after: Control, control: &mut [u64; 6]) -> u64
-    ensures answered { result ≡ number_of (answer_of outcome) }
+pub fn written(answer: Answer, after: Control, control: &mut [u64; 6]) -> u64
+    ensures answered { result ≡ number_of answer }
     ensures control_after { control.new ≡ fields_of after }
 {
     *control = after.into();
-    match outcome {
-        Ok(()) => u64::from(Answer::Finished),
-        Err(refused) => u64::from(refused),
-    }
+    u64::from(answer)
 }
 
-// The place of a group of registers: both numbers are 0 beside a refusal.
-pub fn placed(place: Result<ViewPlace, Answer>, start: &mut usize, size: &mut usize) -> u64
-    ensures answered { result ≡ number_of (answer_of place) }
-    ensures start_after { start.new ≡ start_of place }
-    ensures size_after { size.new ≡ size_of place }
+// The place of a group of registers.
+pub fn placed(answer: Answer, place: ViewPlace, start: &mut usize, size: &mut usize) -> u64
+    ensures answered { result ≡ number_of answer }
+    ensures start_after { start.new ≡ place.start }
+    ensures size_after { size.new ≡ place.size }
 {
-    match place {
-        Ok(place) => {
-            *start = place.start;
-            *size = place.size;
-            u64::from(Answer::Finished)
-        }
-        Err(refused) => {
-            *start = 0;
-            *size = 0;
-            u64::from(refused)
-        }
-    }
+    *start = place.start;
+    *size = place.size;
+    u64::from(answer)
 }
