@@ -116,7 +116,7 @@ fn first_or_ones(registers: &[u8], vlenb: usize, m: MaskInstruction, vl: usize) 
     }
 }
 
-// The bit of element i by the first element that is active and set.
+// The bit of element i by the first element that is active and set, or by vl where none is.
 fn first_bit(op: MaskOp, i: usize, first: usize) -> u64
     ensures { result ≡ first_bit op i first }
 {

@@ -20,6 +20,7 @@ use Rattle.access.proofs.AccessLaws.{is-aligned, facts-granted, faults-misaligne
 use Rattle.plan.specs.declared.Transfer.{Transfer}
 use Rattle.machine.specs.Effect.{element_address}
 use Rattle.unit_stride.specs.Pages.{different_pages}
+use Rattle.std.specs.Prelude.{Option, Some, None, unwrap_or}
 use Rattle.unit_stride.specs.Tested.{Packed, Begins, all, test_of, pages_from, Tested, FirstClosed}
 use Rattle.unit_stride.proofs.PageLaws.{Counted, counted_none, counted_same, counted-new}
 use Rattle.unit_stride.proofs.TestedLaws.{finishes, faults}
@@ -189,10 +190,11 @@ module _ (rights : List ℕ) (memory : ℕ) (t : Transfer) (v n : ℕ) (g : Pack
       pub last-page : (start + (inside - 1) * t.bytes) / 256 < 256
       last-page = omega (arith, last_within, g.memory-length, size-pos t.bytes g.size)
 
-      module _ (closed right : ℕ) (r : right ≡ needed t.store)
-          (c : FirstClosed rights right (start / 256) ((start + (inside - 1) * t.bytes) / 256) closed) where
+      module _ (closed right : ℕ) (r : right ≡ needed t.store) (found : Option ℕ)
+          (c : FirstClosed rights right (start / 256) ((start + (inside - 1) * t.bytes) / 256) found)
+          (z : closed ≡ unwrap_or found (suc (page_of (at (inside - 1))))) where
         open_at : (j : ℕ) → j < inside → page_of (at j) < closed → test_of all rights memory t (v + j) ≡ Ok tt
-        open_at j l m = granted-at j l (rw (← r) (c.before (page_of (at j)) (omega arith) m))
+        open_at j l m = granted-at j l (rw (← r) (c.before (page_of (at j)) (omega arith) (rw z at m)))
 
         not-past-last : (j : ℕ) → j < inside → page_of (at j) ≤ page_of (at (inside - 1))
         not-past-last j l = let m : j * t.bytes ≤ (inside - 1) * t.bytes = mul-le-mul_right t.bytes (omega arith) in omega arith
@@ -201,7 +203,7 @@ module _ (rights : List ℕ) (memory : ℕ) (t : Transfer) (v n : ℕ) (g : Pack
         abbrev wanted_of : ℕ → Wanted
         wanted_of p = record { page = p; right = right }
 
-        pub at-closed : (x : Answer) (d : ℕ) → closed ≤ page_of (at (inside - 1)) → d ≡ 256 * closed - start → x ≡ denied t.store
+        pub at-closed : (x : Answer) (d : ℕ) → found ≡ Some closed → d ≡ 256 * closed - start → x ≡ denied t.store
             → Tested all rights memory t v n
             (record {
               answer = x;
@@ -215,24 +217,30 @@ module _ (rights : List ℕ) (memory : ℕ) (t : Transfer) (v n : ℕ) (g : Pack
             (omega (arith, m, inside-are))
             (λ j q. open_at j (omega (arith, m)) (before-page start j closed t.bytes g.size h.aligned q))
             (rw (there k m) (sym (faults-closed rights memory t.store (at k) t.bytes (multiple k)
-            right (omega (arith, within k m, size-pos t.bytes g.size)) r _ (denied t.store) (rw o (c.closed l)) refl refl)))
+            right (omega (arith, within k m, size-pos t.bytes g.size)) r _ (denied t.store) (rw o lacking.1.1) refl refl)))
             (sym p) (ap wanted_of o) (ap (λ (y : ℕ). v + y / t.bytes) (sym e))
             (rw (there k m, page-tested memory (at k) t.bytes (multiple k) (within k m), add-one k)
-            ((counted k m).count ∙ rw o (omega (arith, c.least))))
+            ((counted k m).count ∙ rw o (omega (arith, lacking.0))))
           where
             k : ℕ
             k = (256 * closed - start) / t.bytes
 
+            lacking : (start / 256 ≤ closed) × ((closed ≤ page_of (at (inside - 1))) × (get_or rights closed 0 < right))
+            lacking = c.closed closed l
+
             m : k < inside
-            m = omega (arith, not_after start (inside - 1) closed t.bytes g.size l)
+            m = omega (arith, not_after start (inside - 1) closed t.bytes g.size lacking.1.0)
 
             o : at k / 256 ≡ closed
-            o = on-page start k closed t.bytes g.size h.aligned c.least refl
+            o = on-page start k closed t.bytes g.size h.aligned lacking.0 refl
 
         -- no page of theirs is closed
-        module _ (q : page_of (at (inside - 1)) < closed) where
+        module _ (e : found ≡ None) where
+          q : page_of (at (inside - 1)) < closed
+          q = rw (z, e) (omega arith)
+
           all-open : (j : ℕ) → j < inside → test_of all rights memory t (v + j) ≡ Ok tt
-          all-open j l = open_at j l (omega (arith, not-past-last j l))
+          all-open j l = open_at j l (omega (arith, q, not-past-last j l))
 
           all-pages : pages_from all rights memory t v inside ≡ page_of (at (inside - 1)) - start / 256 + 1
           all-pages =

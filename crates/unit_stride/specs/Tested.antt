@@ -1,7 +1,7 @@
 -- For contracts of inner functions, not to be believed: what comes of testing the elements of a unit-stride access, by pages or one after
 -- the other, and what these functions rely on.
 use Rattle.std.specs.Prelude.{ℕ, suc, ◌+◌, ◌*◌, ◌%◌, ◌≤◌, ◌<◌, ◌≡◌, Bool, true, ◌&&◌, cond, List, get_or, T, leb}
-use Rattle.std.specs.Prelude.{Result, Ok, Err, ⊤}
+use Rattle.std.specs.Prelude.{Result, Ok, Err, ⊤, Option, Some, unwrap_or}
 use Rattle.width.specs.Width.{flag}
 use Rattle.answer.specs.declared.Answer.TheVariants.{Finished}
 use Rattle.layout.specs.Layout.{byte_size, Inside}
@@ -54,12 +54,10 @@ module _ (active : ℕ → Bool) (rights : List ℕ) (memory : ℕ) (t : Transfe
           wanted = f.place.wanted;
         })
 
--- r is the first page from `first` to `last` that lacks the right, or the page after them
-pub record FirstClosed (rights : List ℕ) (right first last r : ℕ) : Type 0 where
-  pub least : first ≤ r
-  pub most : r ≤ suc last
-  pub before : (p : ℕ) → first ≤ p → p < r → right ≤ get_or rights p 0
-  pub closed : r ≤ last → get_or rights r 0 < right
+-- r is the first page from `first` to `last` that lacks the right, if one does: where none does, all to the last have it
+pub record FirstClosed (rights : List ℕ) (right first last : ℕ) (r : Option ℕ) : Type 0 where
+  pub before : (p : ℕ) → first ≤ p → p < unwrap_or r (suc last) → right ≤ get_or rights p 0
+  pub closed : (p : ℕ) → r ≡ Some p → (first ≤ p) × ((p ≤ last) × (get_or rights p 0 < right))
 
 -- the tally with one page more where that is tested and was not before; pages come in ascending order
 abbrev pub tallied_of : Tally → Bool → ℕ → Tally

@@ -42,18 +42,17 @@ impl Checked {
 
 // ---- unmasked: by pages
 
-// The first of the pages from `first` to `last` that lacks the right, or the page after them. At most two are asked for.
-// By page number, which is what is asked for; no Option, since where none lacks it `FirstClosed` (specs/Tested) speaks of the page after.
-fn first_closed(rights: &[u8; 256], right: u8, first: u64, last: u64) -> u64
+// The first of the pages from `first` to `last` that lacks the right, if one does. At most two are asked for, by number: a page is one.
+fn first_closed(rights: &[u8; 256], right: u8, first: u64, last: u64) -> Option<u64>
     requires { (first ≤ last) × ((last ≤ first + 1) × (last < 256)) }
     ensures { FirstClosed rights.now right first last result }
 {
     for page in first..=last {
         if rights[page as usize] < right {
-            return page;
+            return Some(page);
         }
     }
-    last + 1
+    None
 }
 
 // The elements from the address `start` on, which is aligned: how many of them lie inside memory, and the pages of these.
@@ -81,8 +80,7 @@ fn by_pages(
     let first = start / 256;
     let last = (start + (inside - 1) * size) / 256;
     let right = access::right_needed(t.store);
-    let closed = first_closed(rights, right, first, last);
-    if closed <= last {
+    if let Some(closed) = first_closed(rights, right, first, last) {
         // the first element on that page
         let element = vstart + (256 * closed).saturating_sub(start) / size;
         return Checked {
