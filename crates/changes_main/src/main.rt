@@ -157,6 +157,7 @@ impl Machine {
 }
 
 // A turn on a board; the smaller one has the first half of the file.
+// Not in `turn`: the borrow checker does not cover a part of a field that is cut in the call (tried, with the struct taken apart).
 fn turned(
     hart: Hart,
     word: u32,

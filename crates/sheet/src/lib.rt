@@ -88,6 +88,7 @@ fn print_register(text: &mut Text, n: u64, high: u64, low: u64)
     requires { text.old.at ≤ 2 ^ 24 }
     ensures { Adds text.old (register_line n high low) text.new × (text.new.at ≤ text.old.at + register_bound) }
 {
+    // `&`: with `&&` the end is reached in two ways, and the answer there (`search register-wrote`) was tried and did not close
     if (high == 0) & (low == 0) {
         return;
     }

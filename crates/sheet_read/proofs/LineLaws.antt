@@ -58,11 +58,6 @@ opened-more s rights now i b m h e p q =
     let v : m ≡ mark_of (get_or s (marks_from + i) 0) = q ∙ ap mark_of p in
     rw (e, placed (rights_at s marks_from i) rights i m (length-rights s marks_from i) h, v, add-one i)
 
--- ---- a line: a key, a value and a newline
-
-pub line-is : (p q p' q' : Bool) (b b' : ℕ) → p ≡ p' → q ≡ q' → b ≡ b' → (p && (q && eqb b 10)) ≡ (p' && (q' && eqb b' 10))
-line-is p q p' q' b b' h k e = rw (h, k, e)
-
 -- ---- bounds by cases
 
 pub cond-le : (b : Bool) (x y m : ℕ) → (b ≡ true → x ≤ m) → (b ≡ false → y ≤ m) → cond b x y ≤ m

@@ -67,8 +67,8 @@ fn hex_line(s: &[u8], at: u32, key: &[u8], n: u32) -> bool
 {
     let value = at + key.len() as u32;
     begins_with(s, at, key)
-        & (hexadecimal::digits(s, value, n)
-            & (hexadecimal::byte_at(s, (value + n) as usize) == b'\n'))
+        && hexadecimal::digits(s, value, n)
+        && hexadecimal::byte_at(s, (value + n) as usize) == b'\n'
 }
 
 // Whether a byte is - r w.
@@ -101,7 +101,9 @@ fn marks(s: &[u8]) -> bool
 fn rights_line(s: &[u8]) -> bool
     ensures { result ≡ rights_line s.now }
 {
-    begins_with(s, 0, b"rights=") & (marks(s) & (hexadecimal::byte_at(s, MARKS_FROM + 16) == b'\n'))
+    begins_with(s, 0, b"rights=")
+        && marks(s)
+        && hexadecimal::byte_at(s, MARKS_FROM + 16) == b'\n'
 }
 
 // A number from 1 to 128 and the newline after it, at the front of four bytes.

@@ -7,6 +7,7 @@ ghost use Rattle.std.specs.Prelude.{◌≡◌, [], ◌∷◌, ◌+◌, ◌≤◌
 ghost use Rattle.text.specs.Text.{hex_digit, hex, numeral, decimal, short_hex, line, Adds};
 
 // The buffer, and the index of the next byte.
+// Not by `write!`: a `write_str` may require nothing, so the index could wrap, and each call would answer a Result that is always Ok.
 #[derive(Drop)]
 pub struct Text<'a> {
     pub out: &'a mut [u8],

@@ -8,6 +8,7 @@
 #![tactic(auto)]
 
 ghost use Rattle.std.specs.Prelude.{◌≤◌};
+ghost use Rattle.vectors_main.specs.declared.TheConstants.{REGISTERS, SCALARS, MEMORY, RIGHTS};
 
 use access::Wanted;
 use case_lines::next_bytes;
@@ -86,77 +87,76 @@ fn next_line(input: &mut impl Read) -> Option<Line> {
     Some(line)
 }
 
-// A part of a state: the room for it, of which a case lends so much from its beginning.
-#[derive(Drop)]
-struct Part<T, const N: usize> {
-    room: [T; N],
-    lent: usize,
-    ghost fits: { lent ≤ N },
+// What the first line of a case says: the word and its allowance, the control record, and how much of each part is lent.
+// A part with its own length: tried; the borrow checker lends no part of an array of generic length, nor of a struct with a ghost field.
+#[derive(Clone, Copy)]
+struct Head {
+    word: u32,
+    allowance: u32,
+    control: Control,
+    registers: usize,
+    scalars: usize,
+    memory: usize,
+    rights: usize,
+    ghost registers_fit: { registers ≤ REGISTERS },
+    ghost scalars_fit: { scalars ≤ SCALARS },
+    ghost memory_fits: { memory ≤ MEMORY },
+    ghost rights_fit: { rights ≤ RIGHTS },
 }
 
-impl<T: Copy, const N: usize> Part<T, N> {
-    // Of what a case says, at most the room that there is.
-    fn new(room: [T; N], lent: u64) -> Part<T, N> {
-        Part {
-            room,
-            lent: N.min(lent as usize),
+impl Head {
+    // A length is at most the room that there is.
+    fn of_line(line: &[u8]) -> Head {
+        Head {
+            word: hexadecimal::number(line, 0, 8) as u32,
+            allowance: hexadecimal::number(line, 8, 8) as u32,
+            control: case_lines::control_at(line, 16),
+            registers: REGISTERS.min(hexadecimal::number(line, 112, 8) as usize),
+            scalars: SCALARS.min(hexadecimal::number(line, 120, 8) as usize),
+            memory: MEMORY.min(hexadecimal::number(line, 128, 8) as usize),
+            rights: RIGHTS.min(hexadecimal::number(line, 136, 8) as usize),
         }
-    }
-
-    fn lent(&self) -> &[T] {
-        &self.room[..self.lent]
-    }
-
-    fn lent_mut(&mut self) -> &mut [T] {
-        &mut self.room[..self.lent]
     }
 }
 
 // A case as far as its lines have come.
 #[derive(Drop)]
 struct Case {
-    word: u32,
-    allowance: u32,
-    control: Control,
-    registers: Part<u8, REGISTERS>,
-    scalars: Part<u64, SCALARS>,
-    memory: Part<u8, MEMORY>,
-    rights: Part<u8, RIGHTS>,
+    head: Head,
+    registers: [u8; REGISTERS],
+    scalars: [u64; SCALARS],
+    memory: [u8; MEMORY],
+    rights: [u8; RIGHTS],
 }
 
 impl Case {
-    // Of its first line, and of the bytes of memory. Every page may be read and written.
-    fn of_line(line: &[u8], image: &[u8; MEMORY]) -> Case {
+    // Of no line yet. Every page may be read and written.
+    fn new() -> Case {
         Case {
-            word: hexadecimal::number(line, 0, 8) as u32,
-            allowance: hexadecimal::number(line, 8, 8) as u32,
-            control: case_lines::control_at(line, 16),
-            registers: Part::new(
-                array::from_fn(register_byte),
-                hexadecimal::number(line, 112, 8),
-            ),
-            scalars: Part::new(array::from_fn(scalar_at), hexadecimal::number(line, 120, 8)),
-            memory: Part::new(*image, hexadecimal::number(line, 128, 8)),
-            rights: Part::new([2; RIGHTS], hexadecimal::number(line, 136, 8)),
+            head: Head::of_line(b""),
+            registers: array::from_fn(register_byte),
+            scalars: array::from_fn(scalar_at),
+            memory: array::from_fn(memory_byte),
+            rights: [2; RIGHTS],
         }
     }
 
-    // What a line asks for.
-    fn follow(
-        &mut self,
-        line: Line,
-        image: &[u8; MEMORY],
-        output: &mut impl Write,
-    ) -> io::Result<()> {
+    // What a line asks for. All but memory is as in `blank` when a case begins; memory is so after every turn.
+    fn follow(&mut self, line: Line, blank: &Case, output: &mut impl Write) -> io::Result<()> {
         match line {
-            Line::Case(line) => *self = Case::of_line(&line, image),
-            Line::Scalar(line) => case_lines::set_scalar(&mut self.scalars.room, &line),
+            Line::Case(line) => {
+                self.head = Head::of_line(&line);
+                self.registers = blank.registers;
+                self.scalars = blank.scalars;
+                self.rights = blank.rights;
+            }
+            Line::Scalar(line) => case_lines::set_scalar(&mut self.scalars, &line),
             Line::Registers(line) => {
                 let first = 8 * hexadecimal::number(&line, 0, 2) as usize;
-                case_lines::set_bytes(&mut self.registers.room, first, &line, 2);
+                case_lines::set_bytes(&mut self.registers, first, &line, 2);
             }
-            Line::Rights(line) => case_lines::set_rights(&mut self.rights.room, &line, 3, 2),
-            Line::Turn(hart) => return self.turn(hart, image, output),
+            Line::Rights(line) => case_lines::set_rights(&mut self.rights, &line, 3, 2),
+            Line::Turn(hart) => return self.turn(hart, blank, output),
             Line::Check(hart) => return print_checked(output, self.checked(hart)),
         }
         Ok(())
@@ -164,69 +164,60 @@ impl Case {
 
     // The check on a board.
     fn checked(&self, hart: Hart) -> Checked {
-        access_check::check(
-            hart,
-            self.word,
-            self.registers.lent(),
-            self.scalars.lent(),
-            self.memory.lent(),
-            self.rights.lent(),
-            self.control,
-        )
+        let head = self.head;
+        let registers = &self.registers[..head.registers];
+        let scalars = &self.scalars[..head.scalars];
+        let memory = &self.memory[..head.memory];
+        let rights = &self.rights[..head.rights];
+        let Head { word, control, .. } = head;
+        access_check::check(hart, word, registers, scalars, memory, rights, control)
     }
 
-    // The turn on a board, and what it changed, which is put back but for the scalars, also where it could not be written.
-    fn turn(
-        &mut self,
-        hart: Hart,
-        image: &[u8; MEMORY],
-        output: &mut impl Write,
-    ) -> io::Result<()> {
-        let registers_before = self.registers.room;
-        let scalars_before = self.scalars.room;
-        let turned = self.turned(hart);
-        let written = self.print_turn(output, turned, &registers_before, &scalars_before, image);
-        self.registers.room = registers_before;
-        self.memory.room = *image;
-        written
-    }
-
-    fn turned(&mut self, hart: Hart) -> Turned {
+    // The turn on a board, and what it changed, which is put back but for the scalars.
+    fn turn(&mut self, hart: Hart, blank: &Case, output: &mut impl Write) -> io::Result<()> {
+        let registers_before = self.registers;
+        let scalars_before = self.scalars;
         let Case {
-            word,
-            allowance,
-            control,
+            head,
             registers,
             scalars,
             memory,
             rights,
         } = self;
-        turn::turn(
+        let turned = turned(
             hart,
-            *word,
-            *allowance,
-            registers.lent_mut(),
-            scalars.lent_mut(),
-            memory.lent_mut(),
-            rights.lent(),
-            *control,
-        )
-    }
-
-    fn print_turn(
-        &self,
-        output: &mut impl Write,
-        turned: Turned,
-        registers: &[u8],
-        scalars: &[u64],
-        memory: &[u8],
-    ) -> io::Result<()> {
+            *head,
+            &mut registers[..head.registers],
+            &mut scalars[..head.scalars],
+            &mut memory[..head.memory],
+            &rights[..head.rights],
+        );
         print_turned(output, turned)?;
-        print_bytes(output, "v", self.registers.lent(), registers)?;
-        print_scalars(output, self.scalars.lent(), scalars)?;
-        print_bytes(output, "m", self.memory.lent(), memory)?;
+        // what is not lent does not change; only of memory is it worth leaving out
+        print_bytes(output, "v", registers, &registers_before)?;
+        print_scalars(output, scalars, &scalars_before)?;
+        print_bytes(output, "m", memory, &blank.memory[..head.memory])?;
         writeln!(output)
     }
+}
+
+fn turned(
+    hart: Hart,
+    head: Head,
+    registers: &mut [u8],
+    scalars: &mut [u64],
+    memory: &mut [u8],
+    rights: &[u8],
+) -> Turned {
+    let Head {
+        word,
+        allowance,
+        control,
+        ..
+    } = head;
+    turn::turn(
+        hart, word, allowance, registers, scalars, memory, rights, control,
+    )
 }
 
 // ---- what is written of a turn and of a check
@@ -240,21 +231,22 @@ fn print_turned(output: &mut impl Write, turned: Turned) -> io::Result<()> {
     case_lines::print_control(output, turned.control)
 }
 
-// The changed bytes, and the index of the first of those that follow one another.
+// The changed bytes, and the index of the first of those that follow one another. They are as before then.
 fn print_bytes(
     output: &mut impl Write,
     label: &str,
-    bytes: &[u8],
+    bytes: &mut [u8],
     before: &[u8],
 ) -> io::Result<()> {
     let mut is_first = true;
-    for (k, (byte, old)) in bytes.iter().zip(before).enumerate() {
+    for (k, (byte, old)) in bytes.iter_mut().zip(before).enumerate() {
         let changed = *byte != *old;
         if changed {
             if is_first {
                 write!(output, " {label}{k:x}=")?;
             }
             write!(output, "{byte:02x}")?;
+            *byte = *old;
         }
         is_first = !changed;
     }
@@ -284,11 +276,13 @@ fn main(rt: HostRuntime) -> io::Result<()> {
     let alloc = rt.alloc();
     let mut input = BufReader::new(alloc, rt.reader())?;
     let mut output = LineWriter::new(alloc, io::writer(&rt))?;
-    let image: [u8; MEMORY] = array::from_fn(memory_byte);
-    let mut case = Case::of_line(b"", &image);
+    let blank = Case::new();
+    let mut case = Case::new();
     for line in iter::from_fn(|| next_line(&mut input)).take(case_lines::MOST_LINES) {
-        // a write that fails is passed over
-        let _ = case.follow(line, &image, &mut output);
+        // a write that fails ends the run: what the turn changed is not all put back
+        if case.follow(line, &blank, &mut output).is_err() {
+            break;
+        }
     }
     Ok(())
 }

@@ -1,5 +1,0 @@
-use Rattle.sheet_read.proofs.LineLaws.{line-is}
-use Rattle.sheet_read.proofs.hex_line.Goals as goal
-
-pub returns : goal.returns
-returns c = search line-is
