@@ -101,9 +101,7 @@ fn marks(s: &[u8]) -> bool
 fn rights_line(s: &[u8]) -> bool
     ensures { result ≡ rights_line s.now }
 {
-    begins_with(s, 0, b"rights=")
-        && marks(s)
-        && hexadecimal::byte_at(s, MARKS_FROM + 16) == b'\n'
+    begins_with(s, 0, b"rights=") && marks(s) && hexadecimal::byte_at(s, MARKS_FROM + 16) == b'\n'
 }
 
 // A number from 1 to 128 and the newline after it, at the front of four bytes.
