@@ -173,8 +173,19 @@ impl Case {
         access_check::check(hart, word, registers, scalars, memory, rights, control)
     }
 
-    // The turn on a board, and what it changed, which is put back but for the scalars.
+    // The turn on a board, and what it changed, which is put back but for the scalars, also where it could not be written.
     fn turn(&mut self, hart: Hart, blank: &Case, output: &mut impl Write) -> io::Result<()> {
+        let registers_before = self.registers;
+        let written = self.print_turn(hart, blank, output);
+        if written.is_err() {
+            self.registers = registers_before;
+            self.memory = blank.memory;
+        }
+        written
+    }
+
+    // The turn on a board, and what it changed, put back as it is written.
+    fn print_turn(&mut self, hart: Hart, blank: &Case, output: &mut impl Write) -> io::Result<()> {
         let registers_before = self.registers;
         let scalars_before = self.scalars;
         let Case {
@@ -279,10 +290,8 @@ fn main(rt: HostRuntime) -> io::Result<()> {
     let blank = Case::new();
     let mut case = Case::new();
     for line in iter::from_fn(|| next_line(&mut input)).take(case_lines::MOST_LINES) {
-        // a write that fails ends the run: what the turn changed is not all put back
-        if case.follow(line, &blank, &mut output).is_err() {
-            break;
-        }
+        // a write that fails is passed over
+        let _ = case.follow(line, &blank, &mut output);
     }
     Ok(())
 }
