@@ -31,7 +31,7 @@ pub struct FaultPlace {
 }
 
 impl FaultPlace {
-    // What stands beside an answer that is no fault.
+    // What stands beside an answer that is no fault. A function and no constant: the contracts of its callers name the definition.
     pub fn nowhere() -> FaultPlace
         ensures { result ≡ nowhere }
     {
@@ -57,7 +57,7 @@ fn fault_at(answer: Answer, address: u64, wanted: Wanted) -> Result<(), Fault>
     Err(Fault { answer, place })
 }
 
-// 4 or 6. One function for this and `denied_answer` would take an enum of the two, and a call a case of it where it has the name.
+// 4 or 6. One function for this and `denied_answer` would take an enum that says which is meant: longer than the second function.
 pub fn misaligned_answer(store: bool) -> Answer
     ensures { result ≡ misaligned store }
 {
@@ -94,7 +94,8 @@ pub fn aligned(a: u64, n: u64) -> bool
     a & (n - 1) == 0
 }
 
-// The element of n bytes at address a, in a memory of so many bytes.
+// The element of n bytes at address a, in a memory of so many bytes. The rights and the length of memory come one by one here and in
+// callers, as the definitions have them (`access_of`): a struct of both would be made for each call.
 pub fn access(rights: &[u8; 256], memory: usize, store: bool, a: u64, n: u64) -> Result<(), Fault>
     requires { (memory ≤ 65536) × T (byte_size n) }
     ensures { result ≡ access_of rights.now memory store a n }

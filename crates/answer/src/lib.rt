@@ -2,25 +2,24 @@
 
 #![tactic(auto)]
 
-// What a call comes to; `u64::from` gives the paper's number of each.
+// What a call comes to, with its number in document 01.
 #[derive(Clone, Copy, PartialEq, Eq)]
 pub enum Answer {
-    Finished,
-    Paused,
-    Illegal,
-    LoadMisaligned,
-    LoadAccess,
-    StoreMisaligned,
-    StoreAccess,
-    BadRegisters,
-    BadScalars,
-    BadMemory,
-    BadRights,
-    BadControl,
-    NoGroup,
+    Finished = 0,
+    Paused = 1,
+    Illegal = 2,
+    LoadMisaligned = 4,
+    LoadAccess = 5,
+    StoreMisaligned = 6,
+    StoreAccess = 7,
+    BadRegisters = 32,
+    BadScalars = 33,
+    BadMemory = 34,
+    BadRights = 35,
+    BadControl = 36,
+    NoGroup = 38,
 }
 
-// The answer's number in document 01.
 impl From<Answer> for u64 {
     ghost use Rattle.std.specs.Prelude.{◌≡◌};
     ghost use Rattle.answer.specs.Answer.{number_of};
@@ -28,20 +27,6 @@ impl From<Answer> for u64 {
     ghost from_gives = { λ answer number. number ≡ number_of answer };
 
     fn from(answer: Answer) -> u64 {
-        match answer {
-            Answer::Finished => 0,
-            Answer::Paused => 1,
-            Answer::Illegal => 2,
-            Answer::LoadMisaligned => 4,
-            Answer::LoadAccess => 5,
-            Answer::StoreMisaligned => 6,
-            Answer::StoreAccess => 7,
-            Answer::BadRegisters => 32,
-            Answer::BadScalars => 33,
-            Answer::BadMemory => 34,
-            Answer::BadRights => 35,
-            Answer::BadControl => 36,
-            Answer::NoGroup => 38,
-        }
+        answer as u64
     }
 }

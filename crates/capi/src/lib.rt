@@ -21,13 +21,6 @@ use view::ViewPlace;
 
 pub mod small;
 
-// The first board.
-fn hart() -> Hart
-    ensures { result.board ≡ base }
-{
-    Hart::BASE
-}
-
 // One turn of a word: the answer's number, and in the lent parts what the turn leaves.
 #[unsafe(no_mangle)]
 pub extern "C" fn prashunde_turn(
@@ -51,7 +44,7 @@ pub extern "C" fn prashunde_turn(
         scalars.new memory.new rights.now control.new }
 {
     let turned = turn::turn(
-        hart(),
+        Hart::base(),
         word,
         allowance,
         registers,
@@ -89,7 +82,7 @@ pub extern "C" fn prashunde_access_check(
         × ((rights.exit.now ≡ rights.entry.now) × (control.exit.now ≡ control.entry.now)))) }
 {
     let checked = access_check::check(
-        hart(),
+        Hart::base(),
         word,
         registers,
         scalars,
@@ -107,7 +100,7 @@ pub extern "C" fn prashunde_csr_read(csr: u64, control: &[u64; 6], value: &mut u
     ensures value_after { value.new ≡ value_of (read_of base (record_of control.now) csr) }
     ensures control_value { control.exit.now ≡ control.entry.now }
 {
-    let read = csr::read(hart(), Control::from(*control), csr);
+    let read = csr::read(Hart::base(), Control::from(*control), csr);
     crossing::read(crossing::answer(read), read.unwrap_or(0), value)
 }
 
@@ -119,7 +112,7 @@ pub extern "C" fn prashunde_csr_write(csr: u64, value: u64, control: &mut [u64; 
         ≡ fields_of (record_after (record_of control.old) (written_of base (record_of control.old) csr value)) }
 {
     let mut record = Control::from(*control);
-    let outcome = csr_field::write(hart(), &mut record, csr, value);
+    let outcome = csr_field::write(Hart::base(), &mut record, csr, value);
     crossing::written(crossing::answer(outcome), record, control)
 }
 
@@ -136,7 +129,7 @@ pub extern "C" fn prashunde_view(
     ensures start_after { start.new ≡ start_of (place_of base (length registers.now) first count) }
     ensures size_after { size.new ≡ size_of (place_of base (length registers.now) first count) }
 {
-    let place = view::place(hart(), registers.len(), first, count);
+    let place = view::place(Hart::base(), registers.len(), first, count);
     let nowhere = ViewPlace { start: 0, size: 0 };
     crossing::placed(
         crossing::answer(place),

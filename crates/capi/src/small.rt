@@ -14,12 +14,6 @@ ghost use Rattle.crossing.specs.Crossing.{Shows, Tells};
 use control::{Control, Hart};
 use view::ViewPlace;
 
-fn hart() -> Hart
-    ensures { result.board ≡ small }
-{
-    Hart::SMALL
-}
-
 #[unsafe(no_mangle)]
 pub extern "C" fn prashunde_small_turn(
     word: u32,
@@ -42,7 +36,7 @@ pub extern "C" fn prashunde_small_turn(
         scalars.new memory.new rights.now control.new }
 {
     let turned = turn::turn(
-        hart(),
+        Hart::small(),
         word,
         allowance,
         registers,
@@ -78,7 +72,7 @@ pub extern "C" fn prashunde_small_access_check(
         × ((rights.exit.now ≡ rights.entry.now) × (control.exit.now ≡ control.entry.now)))) }
 {
     let checked = access_check::check(
-        hart(),
+        Hart::small(),
         word,
         registers,
         scalars,
@@ -95,7 +89,7 @@ pub extern "C" fn prashunde_small_csr_read(csr: u64, control: &[u64; 6], value: 
     ensures value_after { value.new ≡ value_of (read_of small (record_of control.now) csr) }
     ensures control_value { control.exit.now ≡ control.entry.now }
 {
-    let read = csr::read(hart(), Control::from(*control), csr);
+    let read = csr::read(Hart::small(), Control::from(*control), csr);
     crossing::read(crossing::answer(read), read.unwrap_or(0), value)
 }
 
@@ -106,7 +100,7 @@ pub extern "C" fn prashunde_small_csr_write(csr: u64, value: u64, control: &mut 
         ≡ fields_of (record_after (record_of control.old) (written_of small (record_of control.old) csr value)) }
 {
     let mut record = Control::from(*control);
-    let outcome = csr_field::write(hart(), &mut record, csr, value);
+    let outcome = csr_field::write(Hart::small(), &mut record, csr, value);
     crossing::written(crossing::answer(outcome), record, control)
 }
 
@@ -122,7 +116,7 @@ pub extern "C" fn prashunde_small_view(
     ensures start_after { start.new ≡ start_of (place_of small (length registers.now) first count) }
     ensures size_after { size.new ≡ size_of (place_of small (length registers.now) first count) }
 {
-    let place = view::place(hart(), registers.len(), first, count);
+    let place = view::place(Hart::small(), registers.len(), first, count);
     let nowhere = ViewPlace { start: 0, size: 0 };
     crossing::placed(
         crossing::answer(place),

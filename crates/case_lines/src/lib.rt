@@ -117,7 +117,7 @@ fn put_control(text: &mut Text, control: Control)
     put_spaced(text, &fields[1..]);
 }
 
-// The same into a buffer from an index on, and the index after it.
+// The same into a buffer from an index on, and the index after it: no `Text`, as it was (docs/READING.md, section 8).
 pub fn control_text(out: &mut [u8], at: usize, control: Control) -> usize
     requires { at ≤ 2 ^ 29 }
     ensures { Wrote out.old at (control_text control) out.new result × (result ≤ at + 121) }

@@ -37,11 +37,26 @@ pub struct Hart {
 }
 
 impl Hart {
+    ghost use Rattle.control.specs.Board.{base, small};
+
     pub const BASE: Hart = Hart { board: Board::BASE };
 
     pub const SMALL: Hart = Hart {
         board: Board::SMALL,
     };
+
+    // The same, for callers whose contracts name the board.
+    pub fn base() -> Hart
+        ensures { result.board ≡ base }
+    {
+        Hart::BASE
+    }
+
+    pub fn small() -> Hart
+        ensures { result.board ≡ small }
+    {
+        Hart::SMALL
+    }
 }
 
 // The control record (document 01, 'The machine on the screen'), with the status field VS of mstatus (document 02, A8): 0 Off, 1 Initial,
@@ -59,7 +74,7 @@ pub struct Control {
 
 impl Control {
     ghost use Rattle.control.specs.Vtype.{lmul8_of, sew_of, vlmax_of, supported_of};
-    ghost use Rattle.control.specs.Control.{with_vtype, with_vstart, with_vxrm, with_vxsat, with_vs, dirtied, is_off};
+    ghost use Rattle.control.specs.Control.{reset, with_vtype, with_vstart, with_vxrm, with_vxsat, with_vs, dirtied, is_off};
     ghost use Rattle.control.specs.Control.{vill_of, set_to, keeps_of, set_of, typed_well_of, possible_of};
 
     // vill alone.
@@ -74,6 +89,13 @@ impl Control {
         vxsat: 0,
         vs: 1,
     };
+
+    // The same, for callers whose contracts name it.
+    pub fn reset() -> Control
+        ensures { result ≡ reset }
+    {
+        Control::RESET
+    }
 
     // ---- the record with one thing changed
 
@@ -153,7 +175,7 @@ impl Control {
         Control::lmul8(vtype) * (hart.board.vlenb as u64) / Control::sew(vtype)
     }
 
-    // Whether vtype is supported. `&` and `|` take both sides, as the definitions do: there is no branch.
+    // Whether vtype is supported. `&` and `|` take both sides here and below, as the definitions do: there is no branch.
     pub fn supported(hart: Hart, vtype: u64) -> bool
         ensures { result ≡ supported_of hart.board vtype }
     {

@@ -63,7 +63,8 @@ pub fn answer<T: Copy>(outcome: Result<T, Answer>) -> Answer
     }
 }
 
-// A read by CSR number.
+// A read by CSR number. Here and below any answer goes with anything beside it, as callers could give: a Result has no value beside a
+// refusal.
 pub fn read(answer: Answer, found: u64, value: &mut u64) -> u64
     ensures answered { result ≡ number_of answer }
     ensures value_after { value.new ≡ found }

@@ -41,7 +41,7 @@ pub fn active(registers: &[u8], vlenb: usize, masked: bool, i: usize) -> bool
     layout::read_element(registers, vlenb, 0, 1, i) == 1
 }
 
-// Whether element i is active and its bit in a mask register set.
+// Whether element i is active and its bit in a mask register set. `&`: both are read, without a branch.
 pub fn set_at(registers: &[u8], vlenb: usize, masked: bool, reg: usize, i: usize) -> bool
     requires { Inside (length registers.now) vlenb 0 1 i × Inside (length registers.now) vlenb reg 1 i }
     ensures { result ≡ set_at vlenb registers.now masked reg i }
@@ -87,7 +87,7 @@ pub fn compute_element(
     compute(registers, vlenb, e, k, i)
 }
 
-// ---- loads and stores
+// ---- loads and stores, by the parts of a `Transfer` that the definitions `field_write` and `transferring` have, and an address
 
 // base + i * stride + offset, modulo 2^64.
 pub fn address(t: Transfer, i: u64, offset: u64) -> u64

@@ -1,6 +1,6 @@
 // The element operations of section 13 of document 000, with the rounding and saturation of sections 4.8 and 4.9. `a` is the element of
 // vs2, `b` that of vs1 (or the scalar or immediate in its place), `rm` the rounding mode. Each is an operation that the standard names
-// and alu calls, as in integer.
+// and alu calls, and an element is a number with its bound as a clause, both as in integer.
 
 #![tactic(auto)]
 
@@ -170,7 +170,7 @@ pub fn increment_of(rm: Vxrm, d: u64, last: u64, lost: u64) -> u64
         Vxrm::Rne => if lower != 0 || last == 1 { highest } else { 0 },
         // 2, rdn: 0
         Vxrm::Rdn => 0,
-        // 3, rod: 1 if the last kept bit is 0 and a lost bit is 1
+        // 3, rod: 1 if the last kept bit is 0 and a lost bit is 1 (`&`: a bit of two tests, without a branch)
         Vxrm::Rod => u64::from((last == 0) & (lost != 0)),
     }
 }

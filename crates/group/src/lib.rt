@@ -8,6 +8,7 @@ ghost use Rattle.group.specs.Group.{emul8_of, mask_group, registers_of, span_of,
 ghost use Rattle.group.specs.Group.{apart_of, highest_of, may_overlap_of, may_share_of, spares_v0};
 
 // A group: its first register, EEW, and 8 * EMUL. Of a segment access, that of the first field: nf others of the kind follow it.
+// No ghost field bounds `reg`: the definitions and theorem `FieldsApart` (machine) speak of every group.
 #[derive(Clone, Copy)]
 pub struct Group {
     pub reg: usize,

@@ -38,7 +38,7 @@ pub fn digits(line: &[u8], at: u32, n: u32) -> bool
     (0..n).all(|i| is_digit(byte_at(line, at as usize + i as usize)))
 }
 
-// The number of the n digits from index `at`. A loop and not a fold: that x fits is what the loop keeps of it.
+// The number of the n digits from index `at`. A loop and no fold: that x fits would be a contract of the fold's closure.
 pub fn number(line: &[u8], at: u32, n: u32) -> u64
     requires { n ≤ 16 }
     ensures { (result ≡ number_at line.now at n) × (result < 16 ^ n) }

@@ -3,6 +3,7 @@
 // a width or a sign alone (vadd and vwaddu, vminu and vmin) stay two. Those that use no width (zext, msbc, and, or, xor, mseq, msne, msltu,
 // msleu, msgtu, minu, maxu, merge, mv) take its number, since their clauses name it: an `Eew` would ask more of callers, and without it
 // (tried: the clause is then over every width) each of their 24 calls in alu, kernel and reduction needs an answer of its own.
+// An element is a number with its bound as a clause, and no type: alu gets three as numbers, and would wrap them at each call.
 
 #![tactic(auto)]
 

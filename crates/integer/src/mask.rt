@@ -1,5 +1,5 @@
 // The eight operations of section 16.1 of document 000. `a` is the mask bit of vs2, `b` that of vs1. One function over a closure would be
-// no plainer: each of its eight calls would hold the formula that stands here.
+// no plainer: each of its eight calls would hold the formula that stands here. `&` and `|`: a bit of two tests, without a branch.
 ghost use Rattle.std.specs.Prelude.{◌≡◌};
 ghost use Rattle.integer.specs.Mask.{vmand, vmnand, vmandn, vmxor, vmor, vmnor, vmorn, vmxnor};
 

@@ -6,7 +6,7 @@
 ghost use Rattle.std.specs.Prelude.{◌≡◌, ◌+◌, ◌*◌, ◌/◌, ◌^◌, ◌≤◌, ◌<◌, length, T};
 ghost use Rattle.layout.specs.Layout.{bytes_at, with_bytes, bit_at, with_bit_at, element_at, with_element, byte_size, Inside};
 
-// ---- bytes, as many as a constant says, so that the compiler makes one load or store of them
+// ---- bytes, as many as a constant says, so that the compiler makes one load or store of them; k is the place of a byte in the number
 
 // The number of N bytes, highest first.
 fn read<const N: usize>(l: &[u8], a: usize) -> u64
@@ -32,7 +32,8 @@ fn write<const N: usize>(l: &mut [u8], a: usize, x: u64)
     }
 }
 
-// The number of the n bytes from index a.
+// The number of the n bytes from index a. That n is a size of an element is a clause here and elsewhere, and n no enum of the four: the
+// definitions have the number (`bytes_at`, the `bytes` of a `Transfer`).
 pub fn read_bytes(l: &[u8], a: usize, n: usize) -> u64
     requires { T (byte_size n) × (a + n ≤ length l.now) }
     ensures { (result ≡ bytes_at l.now a n) × (result < 2 ^ (8 * n)) }

@@ -1,6 +1,6 @@
 // The element operations of sections 12.10 to 12.14 of document 000. `a` is the element of vs2, `b` that of vs1 (or the scalar in its
 // place), `d` the destination's element before the instruction. Each is an operation that the standard names and alu calls, as in integer;
-// `remu`, which uses no width, takes its number for the reason that stands there.
+// `remu`, which uses no width, takes its number, and an element is a number with its bound as a clause, for the reasons that stand there.
 
 #![tactic(auto)]
 

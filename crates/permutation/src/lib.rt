@@ -14,7 +14,7 @@ use decode::PermutationOp;
 use plan::{Elementwise, Permute, Read};
 use width::Eew;
 
-// Element k of vs2, and 0 from VLMAX on.
+// Element k of vs2, and 0 from VLMAX on. What is asked of vs2 is a clause, and no type that would be made of it at each element.
 fn vs2_at(registers: &[u8], vlenb: usize, vs2: Read, vlmax: u64, k: u64) -> u64
     requires { (j : ℕ) → j < vlmax → ReadInside (length registers.now) vlenb vs2 j }
     ensures { result ≡ vs2_at vlenb registers.now vs2 vlmax k }

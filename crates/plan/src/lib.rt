@@ -52,6 +52,7 @@ pub struct Transfer {
     pub bytes: u64,
 }
 
+// (SEW is a number here and an `Eew` in the code of an element: a plan is made at any vtype, at a SEW too that is then illegal.)
 // A permutation at a SEW and a VLMAX: elements of vs2 are read below VLMAX, whatever vl is.
 #[derive(Clone, Copy)]
 pub struct Permute {
@@ -555,7 +556,7 @@ fn scalar_moving(vtype: u64, a: ScalarMoveInstruction) -> ScalarMove
 
 // ---- every decoded word
 
-// The plan of a decoded word.
+// The plan of a decoded word. No type of a record that can be: of the record this asks SEW and vl, and such a type would ask more.
 pub fn plan_of(hart: Hart, x: &[u64; 32], control: Control, instruction: Instruction) -> Plan
     requires { (sew_of control.vtype ≤ 64) × ((control.vl ≤ 128) × Fits instruction) }
     ensures { result ≡ plan_of hart.board x.now control instruction }

@@ -30,6 +30,8 @@ pub const SHEET_MAX: usize = 1660000;
 
 // ---- the report of a turn
 
+// How far the index of a text may be is a clause, and no ghost field of a type: it differs by what is still to be printed.
+
 // The page and the right that were wanted, in the report of a turn with this answer: of a trap.
 fn report_wanted(text: &mut Text, answer: Answer, wanted: Wanted)
     requires { text.old.at ≤ 2 ^ 25 }
@@ -143,13 +145,6 @@ fn scalars(sheet: &[u8]) -> [u64; 32]
 
 // ---- the machine, and its run
 
-// The board of every sheet.
-fn hart() -> Hart
-    ensures { result.board ≡ base }
-{
-    Hart::BASE
-}
-
 // The machine that a sheet runs on.
 #[derive(Drop)]
 struct Machine {
@@ -185,7 +180,7 @@ impl Machine {
             Leaves p text.old text.new self.new × ((result ≡ p.answer) × (text.new.at ≤ text.old.at + report_bound)) }
     {
         let turned = turn::turn(
-            hart(),
+            Hart::base(),
             word,
             allow,
             &mut self.registers,

@@ -1,5 +1,5 @@
 // The elements of a unit-stride access, tested: by pages where there is no mask, one after the other where there is.
-// Registers and VLENB are no struct: tried, contracts are 18 % longer, as each that writes must say that the file is still the one lent.
+// Registers and VLENB are no struct: one that serves writers holds a `&mut`, and of the `&[u8]` that is lent here none can be made.
 
 #![tactic(auto)]
 
@@ -42,7 +42,8 @@ impl Checked {
 
 // ---- unmasked: by pages
 
-// The first of the pages from `first` to `last` that lacks the right, if one does. At most two are asked for, by number: a page is one.
+// The first of the pages from `first` to `last` that lacks the right, if one does. At most two are asked for, by the number of the page, of
+// which `FirstClosed` speaks.
 fn first_closed(rights: &[u8; 256], right: u8, first: u64, last: u64) -> Option<u64>
     requires { (first ≤ last) × ((last ≤ first + 1) × (last < 256)) }
     ensures { FirstClosed rights.now right first last result }
@@ -192,10 +193,12 @@ fn walked(
     ensures { Tested (active_of vlenb registers.now true) rights.now memory t vstart remaining result }
 {
     let mut tally = Tally { pages: 0, next: 0 };
+    // by how many are done, which `pages_from` counts
     for k in 0..remaining {
         let i = vstart + k;
         let a = execute::address(t, i, 0);
         let active = execute::active(registers, vlenb, true, i as usize);
+        // `&`: both are asked, without a branch
         let tested = active & page_tested(memory, a, t.bytes);
         tally = tallied(tally, tested, a / 256);
         if let Err(fault) = test(rights, memory, t, active, a) {
