@@ -121,7 +121,7 @@ module _ (rights : List ℕ) (memory : ℕ) (store : Bool) (a n nf : ℕ) where
     all : suc nf - 0 ≡ suc nf
     all = omega arith
 
-  module _ (field k : ℕ) (t : Testing field k) (l : k ≤ nf) (v : Result ⊤ Fault) (p : v ≡ access_of rights memory store field n) where
+  module _ (field k : ℕ) (t : Testing field k) (l : k < nf + 1) (v : Result ⊤ Fault) (p : v ≡ access_of rights memory store field n) where
     -- with field k before the others
     split : fields_access rights memory store a n 0 (suc nf) ≡ or_next v (fields_access rights memory store a n (suc k) (nf - k))
     unfolding fields_access
@@ -141,12 +141,12 @@ module _ (rights : List ℕ) (memory : ℕ) (store : Bool) (a n nf : ℕ) where
       rest = split ∙ rw (q, add-one) (ap (fields_access rights memory store a n (suc k)) (omega arith));
     }
 
-    pub testing-done : (x : ⊤) → v ≡ Ok x → nf ≤ k → Ok tt ≡ fields_access rights memory store a n 0 (suc nf)
-    unfolding fields_access
-    testing-done x q m = sym (split ∙ rw (q, none))
-      where
-        none : nf - k ≡ 0
-        none = omega arith
+  pub testing-done : (field k : ℕ) → Testing field k → nf + 1 ≤ k → Ok tt ≡ fields_access rights memory store a n 0 (suc nf)
+  unfolding fields_access
+  testing-done field k t l = sym (t.rest ∙ rw none)
+    where
+      none : suc nf - k ≡ 0
+      none = omega arith
 
 -- ---- fields that are granted lie inside memory
 

@@ -132,7 +132,8 @@ pub fn segment(
     ensures { result ≡ fields_access rights.now memory store a n 0 (suc nf) }
 {
     let mut field = a;
-    for _ in 0..=nf {
+    // `0..=nf` is slower
+    for _ in 0..nf as u64 + 1 {
         access(rights, memory, store, field, n)?;
         field = field.wrapping_add(n);
     }

@@ -105,7 +105,7 @@ module _ (vlenb : ℕ) (file₀ memory₀ : List ℕ) (store : Bool) (g : Group)
   unfolding put_all each_field
   first-moved k others s s' e = ap (put_all vlenb (writes (suc k) others)) e
 
-  module _ (file memory : List ℕ) (reg field k : ℕ) (z : Moving file memory reg field k) (l : k ≤ g.nf) where
+  module _ (file memory : List ℕ) (reg field k : ℕ) (z : Moving file memory reg field k) (l : k < g.nf + 1) where
     pub moving-more : (file' memory' : List ℕ) (step : ℕ) → length memory₀ ≤ 65536 → a + nfields g * n ≤ length memory₀
         → file' ≡ cond store file (with_element vlenb file reg g.eew i (bytes_at memory field n))
         → memory' ≡ cond store (with_bytes memory field n (element_at vlenb file reg g.eew i)) memory
@@ -145,16 +145,10 @@ module _ (vlenb : ℕ) (file₀ memory₀ : List ℕ) (store : Bool) (g : Group)
       s-length true e = rw e (length-with_bytes memory field n (element_at vlenb file reg g.eew i))
       s-length false e = rw e
 
-    -- after the last one
-    pub moving-last : g.nf ≤ k → (file' memory' : List ℕ) (step : ℕ) → length memory₀ ≤ 65536 → a + nfields g * n ≤ length memory₀
-        → file' ≡ cond store file (with_element vlenb file reg g.eew i (bytes_at memory field n))
-        → memory' ≡ cond store (with_bytes memory field n (element_at vlenb file reg g.eew i)) memory
-        → step ≡ registers_of g → (x : List ℕ) (c : Control)
-        → core_at file' memory' x c ≡ put_all vlenb (writes 0 (nfields g)) (core_at file₀ memory₀ x c)
-    unfolding put_all each_field
-    moving-last m file' memory' step t u r s p x c =
-        let none : nfields g - (k + 1) ≡ 0 = omega arith in
-        sym (rw none) ∙ (moving-more file' memory' step t u r s p).rest x c
+  pub moving-done : (file memory : List ℕ) (reg field k : ℕ) → Moving file memory reg field k → g.nf + 1 ≤ k → (x : List ℕ) (c : Control)
+      → core_at file memory x c ≡ put_all vlenb (writes 0 (nfields g)) (core_at file₀ memory₀ x c)
+  unfolding put_all each_field
+  moving-done file memory reg field k z l x c = let none : nfields g - k ≡ 0 = omega arith in sym (rw none) ∙ z.rest x c
 
 -- ---- elements
 

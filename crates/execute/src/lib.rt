@@ -149,7 +149,8 @@ fn move_fields(
     let step = group::registers(dest);
     let mut reg = dest.reg;
     let mut field = a;
-    for _ in 0..=dest.nf {
+    // `0..=dest.nf` is slower
+    for _ in 0..dest.nf as u64 + 1 {
         move_field(registers, memory, vlenb, store, reg, dest.eew, n, i, field);
         reg += step;
         field += n;

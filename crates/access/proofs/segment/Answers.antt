@@ -1,4 +1,3 @@
-use Rattle.std.proofs.Common.{arith}
 use Rattle.access.proofs.AccessLaws.{handed-on, testing-none, testing-faulted, testing-more, testing-done}
 use Rattle.access.proofs.segment.Goals as goal
 
@@ -11,5 +10,5 @@ returns-in_err-access c = search (testing-faulted, handed-on, c.in_err-access.wa
 pub loop-preserved : goal.loop-preserved
 loop-preserved c = search (testing-more, c.in_ok-access.was)
 
-pub returns-in_ok-access : goal.returns-in_ok-access
-returns-in_ok-access c = search (testing-done, c.in_ok-access.was, arith)
+pub returns : goal.returns
+returns c = search testing-done
