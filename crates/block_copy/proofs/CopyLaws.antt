@@ -26,11 +26,11 @@ use Rattle.control.specs.declared.Board.{Board}
 use Rattle.control.specs.declared.Control.{Control}
 use Rattle.group.specs.Group.{nfields}
 use Rattle.access.specs.Access.{access_of, fields_access}
-use Rattle.access.proofs.AccessLaws.{granted-facts, testing-none, testing-done}
+use Rattle.access.proofs.AccessLaws.{granted-facts, testing-none, testing-more, testing-done}
 use Rattle.plan.specs.declared.Action.TheVariants as A
 use Rattle.machine.specs.State.{Core}
 use Rattle.execute.specs.Step.{core_at, Did, Ran, none, more, Attempted, done}
-use Rattle.execute.proofs.StepLaws.{first-inside, moving-none, moving-last, moved, transfers-at, acted}
+use Rattle.execute.proofs.StepLaws.{first-inside, moving-none, moving-more, moving-done, moved, transfers-at, acted}
 use Rattle.unit_stride.proofs.PackedLaws.{onward}
 use Rattle.plan.specs.declared.Read.{Read}
 use Rattle.plan.specs.declared.Read.TheVariants as R
@@ -171,15 +171,15 @@ module _ (b : Board) (rights file memory file' memory' : List ℕ) (e : Elementw
   inside : a + t.bytes ≤ length memory
   inside = (granted-facts rights (length memory) t.store a t.bytes f).inside
 
-  one_field : e.dest.nf < 1
+  one_field : e.dest.nf + 1 ≤ 1
   one_field = omega (arith, o.single)
 
   field-granted : Ok tt ≡ fields_access rights (length memory) t.store a t.bytes 0 (nfields e.dest)
   field-granted =
       let here = testing-none rights (length memory) t.store a t.bytes e.dest.nf a 0 (record { fits = omega (arith, inside) })
       refl refl in
-      testing-done rights (length memory) t.store a t.bytes e.dest.nf a 0 here (omega arith) (Ok tt) (sym f) tt refl
-      (omega (arith, one_field))
+      testing-done rights (length memory) t.store a t.bytes e.dest.nf _ 1
+      (testing-more rights (length memory) t.store a t.bytes e.dest.nf a 0 here (omega arith) (Ok tt) (sym f) tt refl) one_field
 
   all_moved : (x : List ℕ) (c : Control) → core_at file' memory' x c
       ≡ put_all b.vlenb (each_field (field_write b.vlenb file memory t.store e.dest t.bytes i a) 0 (nfields e.dest))
@@ -189,8 +189,9 @@ module _ (b : Board) (rights file memory file' memory' : List ℕ) (e : Elementw
       let n = t.bytes in
       let none = moving-none b.vlenb file memory t.store g n i a in
       let room : a + nfields g * n ≤ length memory = rw o.single (omega (arith, inside)) in
-      moving-last b.vlenb file memory t.store g n i a file memory g.reg a 0 none (omega arith) (omega (arith, o.single)) file' memory' _ m room
-      r s refl
+      moving-done b.vlenb file memory t.store g n i a file' memory' _ _ 1
+      (moving-more b.vlenb file memory t.store g n i a file memory g.reg a 0 none (omega arith) file' memory' _ m room r s refl)
+      one_field
 
   element-moved : (x : List ℕ) (c : Control)
       → Did b.vlenb (effect_of b rights (core_at file memory x c) e i) (core_at file memory x c) (Ok tt) (core_at file' memory' x c)
