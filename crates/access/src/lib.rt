@@ -131,6 +131,7 @@ pub fn segment(
     requires { (memory ≤ 65536) × T (byte_size n) }
     ensures { result ≡ fields_access rights.now memory store a n 0 (suc nf) }
 {
+    // stepped, since the address wraps
     let mut field = a;
     // `0..=nf` is slower
     for _ in 0..nf as u64 + 1 {

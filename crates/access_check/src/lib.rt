@@ -76,6 +76,7 @@ fn elements(
 }
 
 // What an uncut turn of the word would answer on a board, where it is a unit-stride access: refusals 32 to 36, then 2, then the elements.
+// The parts of the state come one by one, as C lends them.
 pub fn check(
     hart: Hart,
     word: u32,

@@ -20,6 +20,21 @@ pub enum Answer {
     NoGroup = 38,
 }
 
+impl Answer {
+    ghost use Rattle.std.specs.Prelude.{◌≡◌};
+    ghost use Rattle.answer.specs.Answer.{answer_of};
+
+    // Of a call that gives a value or is refused.
+    pub fn of<T: Copy>(outcome: Result<T, Answer>) -> Answer
+        ensures { result ≡ answer_of outcome }
+    {
+        match outcome {
+            Ok(_) => Answer::Finished,
+            Err(refused) => refused,
+        }
+    }
+}
+
 impl From<Answer> for u64 {
     ghost use Rattle.std.specs.Prelude.{◌≡◌};
     ghost use Rattle.answer.specs.Answer.{number_of};

@@ -55,11 +55,9 @@ fn print_written(output: &mut impl Write, answer: Answer, control: Control) -> i
 // The value of a read is 0 beside a refusal.
 fn read(output: &mut impl Write, hart: Hart, line: &[u8]) -> io::Result<()> {
     let csr = hexadecimal::number(line, 0, 16);
-    let (answer, value) = match csr::read(hart, control_of(line), csr) {
-        Ok(value) => (Answer::Finished, value),
-        Err(refused) => (refused, 0),
-    };
-    writeln!(output, "{} {value:x}", u64::from(answer))
+    let read = csr::read(hart, control_of(line), csr);
+    let (answer, value) = (u64::from(Answer::of(read)), read.unwrap_or(0));
+    writeln!(output, "{answer} {value:x}")
 }
 
 // The record of a write is as before beside a refusal.
@@ -68,16 +66,10 @@ fn write(output: &mut impl Write, hart: Hart, line: &[u8]) -> io::Result<()> {
     let csr = hexadecimal::number(line, 0, 16);
     let value = hexadecimal::number(line, 16, 16);
     let mut lent = control;
-    let answer = match csr_field::write(hart, &mut lent, csr, value) {
-        Ok(()) => Answer::Finished,
-        Err(refused) => refused,
-    };
-    print_written(output, answer, lent)?;
-    let (answer, after) = match csr::write(hart, control, csr, value) {
-        Ok(after) => (Answer::Finished, after),
-        Err(refused) => (refused, control),
-    };
-    print_written(output, answer, after)
+    let outcome = csr_field::write(hart, &mut lent, csr, value);
+    print_written(output, Answer::of(outcome), lent)?;
+    let written = csr::write(hart, control, csr, value);
+    print_written(output, Answer::of(written), written.unwrap_or(control))
 }
 
 // ---- the register view
@@ -117,10 +109,9 @@ fn view(
     first: usize,
     count: usize,
 ) -> io::Result<()> {
-    let (answer, start, size) = match view::place(hart, file.len(), first, count) {
-        Ok(ViewPlace { start, size }) => (Answer::Finished, start, size),
-        Err(refused) => (refused, 0, 0),
-    };
+    let place = view::place(hart, file.len(), first, count);
+    let answer = Answer::of(place);
+    let ViewPlace { start, size } = place.unwrap_or(ViewPlace { start: 0, size: 0 });
     let part = view::view(hart, file, first, count);
     let answer = u64::from(answer);
     writeln!(output, "{answer} {start} {size} {}", checksum(part))

@@ -16,6 +16,7 @@ ghost use Rattle.sheet.specs.Run.{printed, buffered};
 ghost use Rattle.sheet.specs.Bounds.{sheet_bound};
 ghost use Rattle.crossing.specs.Crossing.{Shows, Tells};
 
+use answer::Answer;
 use control::{Control, Hart};
 use view::ViewPlace;
 
@@ -101,7 +102,7 @@ pub extern "C" fn prashunde_csr_read(csr: u64, control: &[u64; 6], value: &mut u
     ensures control_value { control.exit.now ≡ control.entry.now }
 {
     let read = csr::read(Hart::base(), Control::from(*control), csr);
-    crossing::read(crossing::answer(read), read.unwrap_or(0), value)
+    crossing::read(Answer::of(read), read.unwrap_or(0), value)
 }
 
 // The record after a write, through the write on a lent record; the same record beside any other answer than 0.
@@ -113,7 +114,7 @@ pub extern "C" fn prashunde_csr_write(csr: u64, value: u64, control: &mut [u64; 
 {
     let mut record = Control::from(*control);
     let outcome = csr_field::write(Hart::base(), &mut record, csr, value);
-    crossing::written(crossing::answer(outcome), record, control)
+    crossing::written(Answer::of(outcome), record, control)
 }
 
 // Where a group of registers lies in the file: registers[start .. start + size]. Both are 0 beside any other answer than 0.
@@ -131,12 +132,7 @@ pub extern "C" fn prashunde_view(
 {
     let place = view::place(Hart::base(), registers.len(), first, count);
     let nowhere = ViewPlace { start: 0, size: 0 };
-    crossing::placed(
-        crossing::answer(place),
-        place.unwrap_or(nowhere),
-        start,
-        size,
-    )
+    crossing::placed(Answer::of(place), place.unwrap_or(nowhere), start, size)
 }
 
 // The record after reset: vill, and VS Initial.

@@ -11,6 +11,7 @@ ghost use Rattle.machine.specs.Call.{given};
 ghost use Rattle.access_check.specs.AccessCheck.{access_check_of};
 ghost use Rattle.crossing.specs.Crossing.{Shows, Tells};
 
+use answer::Answer;
 use control::{Control, Hart};
 use view::ViewPlace;
 
@@ -90,7 +91,7 @@ pub extern "C" fn prashunde_small_csr_read(csr: u64, control: &[u64; 6], value: 
     ensures control_value { control.exit.now ≡ control.entry.now }
 {
     let read = csr::read(Hart::small(), Control::from(*control), csr);
-    crossing::read(crossing::answer(read), read.unwrap_or(0), value)
+    crossing::read(Answer::of(read), read.unwrap_or(0), value)
 }
 
 #[unsafe(no_mangle)]
@@ -101,7 +102,7 @@ pub extern "C" fn prashunde_small_csr_write(csr: u64, value: u64, control: &mut 
 {
     let mut record = Control::from(*control);
     let outcome = csr_field::write(Hart::small(), &mut record, csr, value);
-    crossing::written(crossing::answer(outcome), record, control)
+    crossing::written(Answer::of(outcome), record, control)
 }
 
 #[unsafe(no_mangle)]
@@ -118,10 +119,5 @@ pub extern "C" fn prashunde_small_view(
 {
     let place = view::place(Hart::small(), registers.len(), first, count);
     let nowhere = ViewPlace { start: 0, size: 0 };
-    crossing::placed(
-        crossing::answer(place),
-        place.unwrap_or(nowhere),
-        start,
-        size,
-    )
+    crossing::placed(Answer::of(place), place.unwrap_or(nowhere), start, size)
 }

@@ -35,7 +35,7 @@ pub fn set_scalar(scalars: &mut [u64], line: &[u8])
     ensures { scalars.new ≡ set scalars.old (number_at line.now 0 2) (number_at line.now 2 16) }
 {
     let at = hexadecimal::number(line, 0, 2) as usize;
-    // by its index: of a `get_mut` the check knows no more than the length after
+    // by its index: `get_mut` was tried, of it the check knows no more than the length after
     if at < scalars.len() {
         scalars[at] = hexadecimal::number(line, 2, 16);
     }

@@ -4,7 +4,7 @@
 #![tactic(auto)]
 
 ghost use Rattle.std.specs.Prelude.{◌≡◌, List, ℕ};
-ghost use Rattle.answer.specs.Answer.{number_of, answer_of};
+ghost use Rattle.answer.specs.Answer.{number_of};
 ghost use Rattle.control.specs.Control.{fields_of};
 ghost use Rattle.machine.specs.Call.{left};
 ghost use Rattle.crossing.specs.Crossing.{Shows, Tells};
@@ -51,16 +51,6 @@ pub fn checked(
     *page = checked.wanted.page;
     *right = u64::from(checked.wanted.right);
     u64::from(checked.answer)
-}
-
-// The answer of a call that gives a value or is refused.
-pub fn answer<T: Copy>(outcome: Result<T, Answer>) -> Answer
-    ensures { result ≡ answer_of outcome }
-{
-    match outcome {
-        Ok(_) => Answer::Finished,
-        Err(refused) => refused,
-    }
 }
 
 // A read by CSR number. Here and below any answer goes with anything beside it, as callers could give: a Result has no value beside a

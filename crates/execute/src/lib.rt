@@ -87,7 +87,10 @@ pub fn compute_element(
     compute(registers, vlenb, e, k, i)
 }
 
-// ---- loads and stores, by the parts of a `Transfer` that the definitions `field_write` and `transferring` have, and an address
+// ---- loads and stores
+
+// The parts of a `Transfer` come one by one below, as the definitions `field_write` and `transferring` have them: it has no address of an
+// element. `move_fields` steps a register and an index of memory: two numbers, neither of them counted by one.
 
 // base + i * stride + offset, modulo 2^64.
 pub fn address(t: Transfer, i: u64, offset: u64) -> u64

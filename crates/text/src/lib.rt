@@ -6,7 +6,7 @@
 ghost use Rattle.std.specs.Prelude.{◌≡◌, [], ◌∷◌, ◌+◌, ◌≤◌, ◌<◌, ◌^◌, ◌%◌, length};
 ghost use Rattle.text.specs.Text.{hex_digit, hex, numeral, decimal, short_hex, line, Adds};
 
-// The buffer, and the index of the next byte.
+// The buffer, and the index of the next byte. How far that may be is a clause, and no ghost field: it differs by what is put.
 // Not by `write!`: a `write_str` may require nothing, so the index could wrap, and each call would answer a Result that is always Ok.
 #[derive(Drop)]
 pub struct Text<'a> {
@@ -27,7 +27,7 @@ fn hex_digit(d: u64) -> u8
 }
 
 impl<'a> Text<'a> {
-    // A byte. By its index: of a slice that is written through `get_mut` the check keeps the length alone.
+    // A byte. By its index: `get_mut` was tried, of a slice that is written through it the check keeps the length alone.
     fn put_byte(&mut self, byte: u8)
         requires { self.old.at ≤ 2 ^ 32 }
         ensures { Adds self.old (byte ∷ []) self.new }
