@@ -3,7 +3,7 @@
 
 #![tactic(auto)]
 
-ghost use Rattle.std.specs.Prelude.{◌≡◌, false, List, ℕ, ◌+◌, ◌≤◌, ◌<◌, length, Ok, Some, None};
+ghost use Rattle.std.specs.Prelude.{◌≡◌, false, cond, List, ℕ, ◌+◌, ◌-◌, ◌≤◌, ◌<◌, length, eqb, Ok};
 ghost use Rattle.control.specs.declared.Control.{Control};
 ghost use Rattle.plan.specs.declared.Action.TheVariants as Act;
 ghost use Rattle.machine.specs.Effect.{vs2_at, stays_at, permuted_of, permuting, effect_of};
@@ -36,16 +36,28 @@ fn slid_down(registers: &[u8], vlenb: usize, vs2: Read, vlmax: u64, x: u64, i: u
     0
 }
 
-// Element k of vs2, or x where a slide by one has none to move.
-fn slid_by_1(registers: &[u8], vlenb: usize, vs2: Read, vlmax: u64, x: u64, k: Option<u64>) -> u64
+// The element below, or x at element 0. One function for this and `slid_1down`, over an Option of the element, was tried: a turn of
+// vslidedown.vx took a third more and one of vse8.v a quarter more (bench/run).
+fn slid_1up(registers: &[u8], vlenb: usize, vs2: Read, vlmax: u64, x: u64, i: u64) -> u64
     requires { (j : ℕ) → j < vlmax → ReadInside (length registers.now) vlenb vs2 j }
-    ensures none { k ≡ None → result ≡ x }
-    ensures some { (j : ℕ) → k ≡ Some j → result ≡ vs2_at vlenb registers.now vs2 vlmax j }
+    ensures { result ≡ cond (eqb i 0) x (vs2_at vlenb registers.now vs2 vlmax (i - 1)) }
 {
-    match k {
-        Some(k) => vs2_at(registers, vlenb, vs2, vlmax, k),
-        None => x,
+    if i == 0 {
+        return x;
     }
+    vs2_at(registers, vlenb, vs2, vlmax, i - 1)
+}
+
+// The element above, or x at the last of vl.
+fn slid_1down(registers: &[u8], vlenb: usize, vs2: Read, vlmax: u64, vl: u64, x: u64, i: u64) -> u64
+    requires { ((j : ℕ) → j < vlmax → ReadInside (length registers.now) vlenb vs2 j) × ((i < vlmax) × (vlmax ≤ 128)) }
+    ensures { result ≡ cond (eqb (i + 1) vl) x (vs2_at vlenb registers.now vs2 vlmax (i + 1)) }
+{
+    let next = i + 1;
+    if next == vl {
+        return x;
+    }
+    vs2_at(registers, vlenb, vs2, vlmax, next)
 }
 
 // Whether a slide up leaves element i as it is.
@@ -67,11 +79,8 @@ fn permuted(registers: &[u8], vlenb: usize, e: Elementwise, p: Permute, x: u64, 
         PermutationOp::Vid => Eew { bits: p.sew }.low(i),
         PermutationOp::Vslideup => vs2_at(registers, vlenb, vs2, vlmax, i - x),
         PermutationOp::Vslidedown => slid_down(registers, vlenb, vs2, vlmax, x, i),
-        PermutationOp::Vslide1up => slid_by_1(registers, vlenb, vs2, vlmax, x, i.checked_sub(1)),
-        PermutationOp::Vslide1down => {
-            let above = (i + 1 != e.end).then_some(i + 1);
-            slid_by_1(registers, vlenb, vs2, vlmax, x, above)
-        }
+        PermutationOp::Vslide1up => slid_1up(registers, vlenb, vs2, vlmax, x, i),
+        PermutationOp::Vslide1down => slid_1down(registers, vlenb, vs2, vlmax, e.end, x, i),
         PermutationOp::Vrgather | PermutationOp::Vrgatherei16 => {
             vs2_at(registers, vlenb, vs2, vlmax, x)
         }
