@@ -37,7 +37,7 @@ fn slid_down(registers: &[u8], vlenb: usize, vs2: Read, vlmax: u64, x: u64, i: u
 }
 
 // The element below, or x at element 0. One function for this and `slid_1down`, over an Option of the element, was tried: a turn of
-// vslidedown.vx took a third more and one of vse8.v a quarter more (bench/run).
+// vse8.v then took 1,015 ns and not 765, one of vslidedown.vx 907 and not 825 (docs/PERFORMANCE.md).
 fn slid_1up(registers: &[u8], vlenb: usize, vs2: Read, vlmax: u64, x: u64, i: u64) -> u64
     requires { (j : ℕ) → j < vlmax → ReadInside (length registers.now) vlenb vs2 j }
     ensures { result ≡ cond (eqb i 0) x (vs2_at vlenb registers.now vs2 vlmax (i - 1)) }
