@@ -11,7 +11,7 @@ use std::io::{self, ErrorKind, Read, Write};
 // Bytes read at most.
 const INPUT: u64 = 1000;
 
-// Zeros, as many as the longest text that a sheet prints.
+// Zeros, as many as the longest text that a sheet prints: no `Vec`, so that no sheet is refused for want of memory.
 fn room() -> [u8; sheet::SHEET_MAX]
     ensures { sheet_bound ≡ length result }
 {
@@ -29,7 +29,7 @@ fn main(rt: HostRuntime) -> io::Result<()> {
     let mut sheet = Vec::new(rt.alloc());
     match rt.reader().take(INPUT).read_to_end(&mut sheet) {
         Err(error) if error.kind() == ErrorKind::OutOfMemory => return Err(error),
-        // a read that fails ends the sheet, as the end of the input does
+        // a read that fails ends the sheet, as the end of the input does (so in sheets_main: a crate for these two arms is no plainer)
         _ => {}
     }
     let mut out = room();
