@@ -1,8 +1,8 @@
 // The element operations of sections 12.1 to 12.9, 12.15 and 12.16 of document 000. `a` is the element of vs2, `b` that of vs1 (or the
 // scalar or immediate in its place), `c` the mask bit of v0. Each is an operation that the standard names and alu calls: two that differ in
 // a width or a sign alone (vadd and vwaddu, vminu and vmin) stay two. Those that use no width (zext, msbc, and, or, xor, mseq, msne, msltu,
-// msleu, msgtu, minu, maxu, merge, mv) take its number, since their clauses name it: an `Eew` would ask more of callers, and without it
-// (tried: the clause is then over every width) each of their 24 calls in alu, kernel and reduction needs an answer of its own.
+// msleu, msgtu, minu, maxu, merge, mv) take its number, since their clauses name it: an `Eew` would ask more of callers; without it the
+// clause is over every width, which was tried for `and`: its arm in alu then needs an answer, and there are 24 such calls.
 // An element is a number with its bound as a clause, and no type: alu gets three as numbers, and would wrap them at each call.
 
 #![tactic(auto)]

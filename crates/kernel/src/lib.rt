@@ -40,7 +40,7 @@ struct Stretch {
 
 // ---- the operations
 
-// No one list serves all: nothing loops over types, the gate refuses an `impl` that a macro writes, and one match is slower (`kernel_of`).
+// No one list serves all: nothing loops over types, the gate refuses an `impl` that a macro writes, and against one match see `kernel_of`.
 
 // Those that have a kernel.
 #[derive(Clone, Copy)]

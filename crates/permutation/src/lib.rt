@@ -36,8 +36,8 @@ fn slid_down(registers: &[u8], vlenb: usize, vs2: Read, vlmax: u64, x: u64, i: u
     0
 }
 
-// The element below, or x at element 0. One function for this and `slid_1down`, over an Option of the element, was tried: a turn of
-// vse8.v then took 1,015 ns and not 765, one of vslidedown.vx 907 and not 825 (docs/PERFORMANCE.md).
+// The element below, or x at element 0. One function for this and `slid_1down` would take an Option, which each of its two calls makes: no
+// plainer, and tried, a turn of vse8.v took 1,015 ns and not 765 (docs/PERFORMANCE.md; no bar is of it).
 fn slid_1up(registers: &[u8], vlenb: usize, vs2: Read, vlmax: u64, x: u64, i: u64) -> u64
     requires { (j : ℕ) → j < vlmax → ReadInside (length registers.now) vlenb vs2 j }
     ensures { result ≡ cond (eqb i 0) x (vs2_at vlenb registers.now vs2 vlmax (i - 1)) }
